@@ -1,0 +1,198 @@
+-- The bridge between a field on codes, whose laws have premises, and a field over a type of elements, whose laws are total:
+-- down, the elements with codes are a field; up, a field with codes gives the laws on codes.
+-- Assumes nothing.
+use mathlib.Core.Path.{_≡_, refl, sym, _∙_, ap, ap₂, subst}
+use mathlib.Core.HLevel.{Σ-prop-path}
+use Prim.Native.Nat.{ℕ, suc, _<_, _≤_, _^_}
+use native.Mathlib.Bridge.{le-prop}
+use native.Mathlib.Decide.{ℕ-discrete}
+use native.Mathlib.Omega.{arith}
+use Rattle.algebra.specs.Doubling.{Below}
+use Rattle.algebra.specs.Field.{Field}
+use Rattle.algebra.proofs.Rules.{zero-mul}
+use Rattle.fields.specs.Laws.{Codes, Laws, Field-laws}
+use Rattle.fields.specs.Inverse.{inverse-under, Inverse-of}
+use Rattle.fields.proofs.InverseLaws.{found, bounded, none, zero-below, one-below, inverse-is}
+
+-- ---- down
+
+module _ {E : Type 0} {C : Codes} {code : E → ℕ} (L : Field-laws E C code) where
+  -- the element with a code
+  abbrev at : (n : ℕ) → n < C .size → E
+  at n h = L .code-onto n h .0
+
+  pub code-at : (n : ℕ) (h : n < C .size) → code (at n h) ≡ n
+  code-at n h = L .code-onto n h .1
+
+  pub same : {a b : E} → code a ≡ code b → a ≡ b
+  same {a} {b} e = L .code-injective a b e
+
+  abbrev zero : E
+  zero = at 0 (zero-below (L .on-codes))
+
+  abbrev one : E
+  one = at 1 (one-below (L .on-codes))
+
+  abbrev add : E → E → E
+  add a b = at (C .sum (code a) (code b)) (L .on-codes .sum-below _ _ (L .code-below a) (L .code-below b))
+
+  abbrev neg : E → E
+  neg a = at (C .negative (code a)) (L .on-codes .negative-below _ (L .code-below a))
+
+  abbrev mul : E → E → E
+  mul a b = at (C .product (code a) (code b)) (L .on-codes .product-below _ _ (L .code-below a) (L .code-below b))
+
+  abbrev inv : E → E
+  inv a = at (C .inverse (code a)) (L .on-codes .inverse-below _ (L .code-below a))
+
+  pub code-zero : code zero ≡ 0
+  code-zero = code-at _ _
+
+  pub code-one : code one ≡ 1
+  code-one = code-at _ _
+
+  pub code-add : (a b : E) → code (add a b) ≡ C .sum (code a) (code b)
+  code-add a b = code-at _ _
+
+  pub code-neg : (a : E) → code (neg a) ≡ C .negative (code a)
+  code-neg a = code-at _ _
+
+  pub code-mul : (a b : E) → code (mul a b) ≡ C .product (code a) (code b)
+  code-mul a b = code-at _ _
+
+  pub code-inv : (a : E) → code (inv a) ≡ C .inverse (code a)
+  code-inv a = code-at _ _
+
+  pub same-element : (a b : E) → Dec (code a ≡ code b) → Dec (a ≡ b)
+  same-element a b (yes e) = yes (same e)
+  same-element a b (no n) = no (λ q. n (ap code q))
+
+  unfoldable pub elements : Field E
+  elements = record {
+    zero = zero;
+    one = one;
+    add = add;
+    neg = neg;
+    mul = mul;
+    inv = inv;
+    add-assoc = λ a b c. same
+        (code-add (add a b) c ∙ ap (λ t. C .sum t (code c)) (code-add a b)
+        ∙ L .on-codes .sum-assoc _ _ _ (L .code-below a) (L .code-below b) (L .code-below c)
+        ∙ sym (code-add a (add b c) ∙ ap (C .sum (code a)) (code-add b c)));
+    add-comm = λ a b. same (code-add a b ∙ L .on-codes .sum-comm _ _ (L .code-below a) (L .code-below b) ∙ sym (code-add b a));
+    add-zero = λ a. same (code-add a zero ∙ ap (C .sum (code a)) code-zero ∙ L .on-codes .sum-zero _ (L .code-below a));
+    add-neg = λ a. same
+        (code-add a (neg a) ∙ ap (C .sum (code a)) (code-neg a) ∙ L .on-codes .sum-negative _ (L .code-below a) ∙ sym code-zero);
+    mul-assoc = λ a b c. same
+        (code-mul (mul a b) c ∙ ap (λ t. C .product t (code c)) (code-mul a b)
+        ∙ L .on-codes .product-assoc _ _ _ (L .code-below a) (L .code-below b) (L .code-below c)
+        ∙ sym (code-mul a (mul b c) ∙ ap (C .product (code a)) (code-mul b c)));
+    mul-comm = λ a b. same (code-mul a b ∙ L .on-codes .product-comm _ _ (L .code-below a) (L .code-below b) ∙ sym (code-mul b a));
+    mul-one = λ a. same (code-mul a one ∙ ap (C .product (code a)) code-one ∙ L .on-codes .product-one _ (L .code-below a));
+    mul-add = λ a b c. same
+        (code-mul a (add b c) ∙ ap (C .product (code a)) (code-add b c)
+        ∙ L .on-codes .product-sum _ _ _ (L .code-below a) (L .code-below b) (L .code-below c)
+        ∙ sym (code-add (mul a b) (mul a c) ∙ ap₂ (C .sum) (code-mul a b) (code-mul a c)));
+    mul-inv = λ a n. same
+        (code-mul a (inv a) ∙ ap (C .product (code a)) (code-inv a)
+        ∙ L .on-codes .product-inverse _ (L .code-below a) (λ e. n (same (e ∙ sym code-zero))) ∙ sym code-one);
+    inv-zero = same (code-inv zero ∙ ap (C .inverse) code-zero ∙ L .on-codes .inverse-zero ∙ sym code-zero);
+    one-not-zero = λ e. let f : _≡_ {A = ℕ} 1 0 = sym code-one ∙ ap code e ∙ code-zero in omega arith;
+    same = λ a b. same-element a b (ℕ-discrete (code a) (code b));
+  }
+
+-- the numbers below the size are elements, each its own code
+unfoldable pub numbers : {C : Codes} → Laws C → Field-laws (Below (C .size)) C (λ x. x .0)
+numbers {C} L = record {
+  on-codes = L;
+  code-below = λ x. x .1;
+  code-injective = λ x y e. Σ-prop-path (λ (k : ℕ). le-prop {n = suc k} {m = C .size}) {u = x} {v = y} e;
+  code-onto = λ n h. ((n, h), refl);
+}
+
+-- ---- up
+
+-- a field over a type D whose elements have codes, each number below the size among them, that go with the operations
+pub record Coding {D : Type 0} (F : Field D) (C : Codes) : Type 0 where
+  pub code : D → ℕ
+  pub below : (x : D) → code x < C .size
+  pub onto : (a : ℕ) → a < C .size → (x : D) × (code x ≡ a)
+  pub zeros : code (F .zero) ≡ 0
+  pub ones : code (F .one) ≡ 1
+  pub sums : (x y : D) → C .sum (code x) (code y) ≡ code (F .add x y)
+  pub negatives : (x : D) → C .negative (code x) ≡ code (F .neg x)
+  pub products : (x y : D) → C .product (code x) (code y) ≡ code (F .mul x y)
+
+module _ {D : Type 0} {F : Field D} {C : Codes} (K : Coding F C) (means : C .inverse ≡ inverse-under (C .size) (C .product)) where
+  open Coding K using (code, below, onto, zeros, ones, sums, negatives, products)
+
+  each : (P : ℕ → Type 0) → ((x : D) → P (code x)) → (a : ℕ) → a < C .size → P a
+  each P f a h = let t = onto a h in subst P (t .1) (f (t .0))
+
+  each2 : (P : ℕ → ℕ → Type 0) → ((x y : D) → P (code x) (code y)) → (a b : ℕ) → a < C .size → b < C .size → P a b
+  each2 P f a b ha hb = each (λ a. P a b) (λ x. each (P (code x)) (f x) b hb) a ha
+
+  each3 : (P : ℕ → ℕ → ℕ → Type 0) → ((x y z : D) → P (code x) (code y) (code z))
+      → (a b c : ℕ) → a < C .size → b < C .size → c < C .size → P a b c
+  each3 P f a b c ha hb hc = each2 (λ a b. P a b c) (λ x y. each (P (code x) (code y)) (f x y) c hc) a b ha hb
+
+  code-not-zero : (x : D) → (code x ≡ 0 → ⊥) → x ≡ F .zero → ⊥
+  code-not-zero x n e = n (ap code e ∙ zeros)
+
+  times-inverse : (x : D) → (code x ≡ 0 → ⊥) → C .product (code x) (code (F .inv x)) ≡ 1
+  times-inverse x n = products x (F .inv x) ∙ ap code (F .mul-inv x (code-not-zero x n)) ∙ ones
+
+  -- 0·x = 0
+  zero-times : (x : D) → C .product 0 (code x) ≡ 0
+  zero-times x = ap (λ t. C .product t (code x)) (sym zeros) ∙ products (F .zero) x ∙ ap code (zero-mul F x) ∙ zeros
+
+  positive : 33 ≤ C .size → 0 < C .size
+  positive h = omega arith
+
+  pub laws-of : 33 ≤ C .size → C .size ≤ 2 ^ 32 → Laws C
+  laws-of low high = record {
+    at-least-33 = low;
+    at-most-2^32 = high;
+    sum-below = each2 (λ a b. C .sum a b < C .size) (λ x y. subst (λ (t : ℕ). t < C .size) (sym (sums x y)) (below (F .add x y)));
+    negative-below = each (λ a. C .negative a < C .size) (λ x. subst (λ (t : ℕ). t < C .size) (sym (negatives x)) (below (F .neg x)));
+    product-below = each2 (λ a b. C .product a b < C .size) (λ x y. subst (λ (t : ℕ). t < C .size) (sym (products x y)) (below (F .mul x y)));
+    inverse-below = λ a h. subst (λ (f : ℕ → ℕ). f a < C .size) (sym means) (bounded (C .product) (C .size) a (positive low));
+    sum-comm = each2 (λ a b. C .sum a b ≡ C .sum b a) (λ x y. sums x y ∙ ap code (F .add-comm x y) ∙ sym (sums y x));
+    sum-assoc = each3 (λ a b c. C .sum (C .sum a b) c ≡ C .sum a (C .sum b c))
+        (λ x y z. ap (λ t. C .sum t (code z)) (sums x y) ∙ sums (F .add x y) z ∙ ap code (F .add-assoc x y z)
+        ∙ sym (ap (C .sum (code x)) (sums y z) ∙ sums x (F .add y z)));
+    sum-zero = each (λ a. C .sum a 0 ≡ a) (λ x. ap (C .sum (code x)) (sym zeros) ∙ sums x (F .zero) ∙ ap code (F .add-zero x));
+    sum-negative = each (λ a. C .sum a (C .negative a) ≡ 0)
+        (λ x. ap (C .sum (code x)) (negatives x) ∙ sums x (F .neg x) ∙ ap code (F .add-neg x) ∙ zeros);
+    product-comm = each2 (λ a b. C .product a b ≡ C .product b a) (λ x y. products x y ∙ ap code (F .mul-comm x y) ∙ sym (products y x));
+    product-assoc = each3 (λ a b c. C .product (C .product a b) c ≡ C .product a (C .product b c))
+        (λ x y z. ap (λ t. C .product t (code z)) (products x y) ∙ products (F .mul x y) z ∙ ap code (F .mul-assoc x y z)
+        ∙ sym (ap (C .product (code x)) (products y z) ∙ products x (F .mul y z)));
+    product-one = each (λ a. C .product a 1 ≡ a) (λ x. ap (C .product (code x)) (sym ones) ∙ products x (F .one) ∙ ap code (F .mul-one x));
+    product-sum = each3 (λ a b c. C .product a (C .sum b c) ≡ C .sum (C .product a b) (C .product a c))
+        (λ x y z. ap (C .product (code x)) (sums y z) ∙ products x (F .add y z) ∙ ap code (F .mul-add x y z)
+        ∙ sym (ap₂ (C .sum) (products x y) (products x z) ∙ sums (F .mul x y) (F .mul x z)));
+    product-inverse = each (λ a. (a ≡ 0 → ⊥) → C .product a (C .inverse a) ≡ 1)
+        (λ x n. ap (λ (f : ℕ → ℕ). C .product (code x) (f (code x))) means
+        ∙ found (C .product) (C .size) (code x) (code (F .inv x)) (below (F .inv x)) (times-inverse x n));
+    inverse-zero =
+        ap (λ (f : ℕ → ℕ). f 0) means
+        ∙ none (C .product) (C .size) 0 (λ b h e. let z : C .product 0 b ≡ 0 = each (λ b. C .product 0 b ≡ 0) zero-times b h in omega arith);
+  }
+
+  pub inverses : Laws C → (x : D) → code (F .inv x) ≡ C .inverse (code x)
+  inverses L x = inverse-is L (code x) (code (F .inv x)) (below x) (record {
+    below = below (F .inv x);
+    of-zero = λ e. ap (λ t. code (F .inv t)) (only-zero e) ∙ ap code (F .inv-zero) ∙ zeros;
+    of-others = times-inverse x;
+  })
+    where
+      only-zero : code x ≡ 0 → x ≡ F .zero
+      only-zero e = by (F .same x (F .zero))
+        where
+          by : Dec (x ≡ F .zero) → x ≡ F .zero
+          by (yes p) = p
+          by (no n) =
+              let z : C .product 0 (code (F .inv x)) ≡ 0 = zero-times (F .inv x) in
+              let o : C .product 0 (code (F .inv x)) ≡ 1 = ap (λ t. C .product t (code (F .inv x))) (sym e) ∙ products x (F .inv x) ∙ ap code (F .mul-inv x n) ∙ ones in
+              absurd (omega arith)

@@ -1,0 +1,5 @@
+pub mod Laws
+pub mod Inverse
+pub mod Byte
+pub mod P251
+pub mod Doubled
