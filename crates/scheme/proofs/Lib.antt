@@ -1,0 +1,5 @@
+pub mod Acceptance
+pub mod Asking
+pub mod Filling
+pub mod Polynomials
+pub mod Tops

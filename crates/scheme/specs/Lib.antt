@@ -1,0 +1,5 @@
+pub mod Questions
+pub mod Figures
+pub mod Polynomial
+pub mod Dealing
+pub mod Accepted

@@ -1,0 +1,9 @@
+// The scheme: its figures, and the dealing of a key into shares.
+mod dealing;
+mod figures_call;
+mod polynomial;
+mod types;
+
+pub use dealing::deal;
+pub use figures_call::figures;
+pub use types::{DealFault, Figures, FiguresFault, Pair, PairDebug, PairPartialEq};
