@@ -88,7 +88,7 @@ pub impl Doublable for Byte as ByteDoublable {
     ghost v = { 0x20 };
 
     fn u() -> Symbol<256> {
-        Symbol { code: 1 }
+        ByteField::one()
     }
 
     fn v() -> Symbol<256> {

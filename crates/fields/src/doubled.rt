@@ -1,5 +1,6 @@
 // The doubling of a field: elements a + b·y with y·y = u·y + v.
-ghost use Rattle.fields.specs.Doubled.{doubled as doubledCodes, join};
+ghost use Rattle.fields.specs.Doubled.{doubled as doubledCodes, high-product, join, low-product};
+ghost use mathlib.Core.Path.{_≡_};
 use crate::field::Doublable;
 use crate::field::Field;
 
@@ -52,16 +53,8 @@ pub impl<F: Doublable> Field for Doubled<F> as DoubledField {
         }
     }
 
-    // Multiplied out, with u·y + v for y·y.
     fn mul(a: Twice<F::Elem>, b: Twice<F::Elem>) -> Twice<F::Elem> {
-        let square = F::mul(a.high, b.high);
-        Twice {
-            low: F::add(F::mul(a.low, b.low), F::mul(F::v(), square)),
-            high: F::add(
-                F::add(F::mul(a.low, b.high), F::mul(a.high, b.low)),
-                F::mul(F::u(), square),
-            ),
-        }
+        multiply_out::<F>(a, b)
     }
 
     // The conjugate over the norm.
@@ -88,4 +81,16 @@ pub impl<F: Doublable> Field for Doubled<F> as DoubledField {
         let high = F::from_code(n / p)?;
         Some(Twice { low, high })
     }
+}
+
+// The product part by part, with u·y + v for y·y.
+fn multiply_out<F: Doublable>(a: Twice<F::Elem>, b: Twice<F::Elem>) -> Twice<F::Elem>
+    ensures low { λ r. ⌜ F·Field .code (r .low) ≡ low-product (F·Field .codes) (F·Doublable .u) (F·Doublable .v) (F·Field .code (a .low)) (F·Field .code (a .high)) (F·Field .code (b .low)) (F·Field .code (b .high)) ⌝ }
+    ensures high { λ r. ⌜ F·Field .code (r .high) ≡ high-product (F·Field .codes) (F·Doublable .u) (F·Doublable .v) (F·Field .code (a .low)) (F·Field .code (a .high)) (F·Field .code (b .low)) (F·Field .code (b .high)) ⌝ }
+{
+    let square = F::mul(a.high, b.high);
+    let cross = F::add(F::mul(a.low, b.high), F::mul(a.high, b.low));
+    let low = F::add(F::mul(a.low, b.low), F::mul(F::v(), square));
+    let high = F::add(cross, F::mul(F::u(), square));
+    Twice { low, high }
 }

@@ -72,7 +72,7 @@ pub impl Doublable for P251 as P251Doublable {
     ghost v = { 250 };
 
     fn u() -> Symbol<251> {
-        Symbol { code: 0 }
+        P251Field::zero()
     }
 
     fn v() -> Symbol<251> {

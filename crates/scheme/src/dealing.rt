@@ -1,16 +1,18 @@
 // The call `deal`.
 ghost use Prim.Native.Nat.{_*_, _+_, _-_, _<_, _≤_};
 ghost use Rattle.scheme.specs.Accepted.{Accepted, refusal-told};
-ghost use Rattle.scheme.specs.Dealing.{at-place, deal-number, deal-refusal, deal-told, dealing, dealt-pair, dealt-share, has-top, places, tag-polynomial, value-polynomial};
+ghost use Rattle.scheme.specs.Dealing.{at-place, deal-number, deal-refusal, deal-told, dealing, dealt-pair, dealt-share, dealt-shares, has-top, places, tag-polynomial, value-polynomial};
 ghost use Rattle.scheme.specs.Questions.{all-codes, every};
-ghost use Rattle.std.specs.Vec.{made};
 ghost use Rattle.std.specs.shelf.Lists.{All};
 ghost use lib.ListN.{length};
 ghost use mathlib.Core.Bool.{_&&_};
 ghost use mathlib.Core.List.{_∷_};
 ghost use mathlib.Core.Path.{_≡_};
-use crate::polynomial::{element, evaluate};
-use crate::types::{DealFault, Figures, Pair};
+use crate::polynomial::element;
+use crate::polynomial::evaluate;
+use crate::types::DealFault;
+use crate::types::Figures;
+use crate::types::Pair;
 use fields::Doublable;
 use fields::Doubled;
 use fields::DoubledField;
@@ -95,7 +97,14 @@ fn coefficients_at(coefficients: &[u64], width: usize, j: usize) -> &[u64]
 }
 
 // Participant i's share.
-fn deal_share<F: Doublable>(figures: &Figures, key: &[u64], values: &[u64], tags: &[u64], i: u64, share: &mut [Pair])
+fn deal_share<F: Doublable>(
+    figures: &Figures,
+    key: &[u64],
+    values: &[u64],
+    tags: &[u64],
+    i: u64,
+    share: &mut [Pair],
+)
     requires { ⌜ Accepted (F·Field .codes) (now figures) (now key) (now values) (now tags) ⌝ }
     requires { ⌜ i < F·Field .codes .size ⌝ ∗ ⌜ length (now share) ≡ now figures .d ⌝ }
     ensures { λ _. ⌜ now (share .exit) ≡ dealt-share (F·Field .codes) (F·Doublable .u) (F·Doublable .v) (now (figures .entry)) (value-polynomial (now (figures .entry)) (now (key .entry)) (now (values .entry))) (tag-polynomial (now (figures .entry)) (now (tags .entry))) i ⌝ }
@@ -108,9 +117,14 @@ fn deal_share<F: Doublable>(figures: &Figures, key: &[u64], values: &[u64], tags
 }
 
 // Puts the questions of `deal`, for a buffer of `room` pairs.
-fn ask<F: Doublable>(figures: &Figures, key: &[u64], values: &[u64], tags: &[u64], room: usize) -> Result<(), DealFault>
-    ensures refusal { λ r. ⌜ refusal-told r ≡ deal-refusal (F·Field .codes) (F·Doublable .u) (F·Doublable .v) (now (figures .entry)) (now (key .entry)) (now (values .entry)) (now (tags .entry)) room ⌝ }
-    ensures accepted { λ r. ⌜ made r (λ _. Accepted (F·Field .codes) (now (figures .entry)) (now (key .entry)) (now (values .entry)) (now (tags .entry)) × (room ≡ now (figures .entry) .n * now (figures .entry) .d)) ⌝ }
+fn ask<F: Doublable>(
+    figures: &Figures,
+    key: &[u64],
+    values: &[u64],
+    tags: &[u64],
+    room: usize,
+) -> Result<(), DealFault>
+    ensures { λ r. ⌜ refusal-told r ≡ deal-refusal (F·Field .codes) (F·Doublable .u) (F·Doublable .v) (now (figures .entry)) (now (key .entry)) (now (values .entry)) (now (tags .entry)) room ⌝ }
 {
     if key.len() != figures.d {
         return Err(DealFault::KeySymbols);
@@ -130,17 +144,38 @@ fn ask<F: Doublable>(figures: &Figures, key: &[u64], values: &[u64], tags: &[u64
     Ok(())
 }
 
-// Deals a key of d symbols into n shares of d pairs, written participant after participant and place after place. Answers the
-// number of pairs; refused, it leaves the buffer as it was.
-pub fn deal<F: Doublable>(figures: &Figures, key: &[u64], values: &[u64], tags: &[u64], shares: &mut [Pair]) -> Result<usize, DealFault>
-    ensures { λ r. ⌜ (deal-told r, now (shares .exit)) ≡ dealing (F·Field .codes) (F·Doublable .u) (F·Doublable .v) (now (figures .entry)) (now (key .entry)) (now (values .entry)) (now (tags .entry)) (now (shares .entry)) ⌝ }
+// Fills the buffer with the shares, participant after participant.
+fn write_shares<F: Doublable>(
+    figures: &Figures,
+    key: &[u64],
+    values: &[u64],
+    tags: &[u64],
+    shares: &mut [Pair],
+)
+    requires { ⌜ Accepted (F·Field .codes) (now figures) (now key) (now values) (now tags) ⌝ }
+    requires { ⌜ length (now shares) ≡ now figures .n * now figures .d ⌝ }
+    ensures { λ _. ⌜ now (shares .exit) ≡ dealt-shares (F·Field .codes) (F·Doublable .u) (F·Doublable .v) (now (figures .entry)) (now (key .entry)) (now (values .entry)) (now (tags .entry)) ⌝ }
 {
-    ask::<F>(figures, key, values, tags, shares.len())?;
     let d = figures.d;
     for i in 0..figures.n {
         let start = i * d;
         let share = &mut shares[start..start + d];
         deal_share::<F>(figures, key, values, tags, i as u64 + 1, share);
     }
-    Ok(figures.n * d)
+}
+
+// Deals a key of d symbols into n shares of d pairs, written participant after participant and place after place. Answers the
+// number of pairs; refused, it leaves the buffer as it was.
+pub fn deal<F: Doublable>(
+    figures: &Figures,
+    key: &[u64],
+    values: &[u64],
+    tags: &[u64],
+    shares: &mut [Pair],
+) -> Result<usize, DealFault>
+    ensures { λ r. ⌜ (deal-told r, now (shares .exit)) ≡ dealing (F·Field .codes) (F·Doublable .u) (F·Doublable .v) (now (figures .entry)) (now (key .entry)) (now (values .entry)) (now (tags .entry)) (now (shares .entry)) ⌝ }
+{
+    ask::<F>(figures, key, values, tags, shares.len())?;
+    write_shares::<F>(figures, key, values, tags, shares);
+    Ok(figures.n * figures.d)
 }

@@ -1,7 +1,8 @@
 // The call `figures`, and what figures and their faults show.
 ghost use Rattle.scheme.specs.Figures.{figures-answer, figures-number, figures-told};
 ghost use mathlib.Core.Path.{_≡_};
-use crate::types::{Figures, FiguresFault};
+use crate::types::Figures;
+use crate::types::FiguresFault;
 
 // Puts the questions about n participants, threshold k, t altered shares and d symbols, in that order.
 pub fn figures(n: u64, k: u64, t: u64, d: u64) -> Result<Figures, FiguresFault>

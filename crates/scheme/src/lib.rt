@@ -6,4 +6,9 @@ mod types;
 
 pub use dealing::deal;
 pub use figures_call::figures;
-pub use types::{DealFault, Figures, FiguresFault, Pair, PairDebug, PairPartialEq};
+pub use types::DealFault;
+pub use types::Figures;
+pub use types::FiguresFault;
+pub use types::Pair;
+pub use types::PairDebug;
+pub use types::PairPartialEq;

@@ -63,7 +63,10 @@ fn show_inverses<F: Field>(rt: &LibcRuntime, name: &str) -> io::Result<()> {
     }
     let zero = F::to_code(F::inv(F::zero()));
     let past = F::from_code(size).is_some();
-    println!(rt, "{name} size={size} ones={ones} inverse of zero={zero} code {size} is read: {past}")
+    println!(
+        rt,
+        "{name} size={size} ones={ones} inverse of zero={zero} code {size} is read: {past}"
+    )
 }
 
 fn times_inverse<F: Field>(n: u64) -> u64 {
@@ -112,20 +115,52 @@ fn dealing_cases(rt: &LibcRuntime) -> io::Result<()> {
     show_dealing(rt, "a pair too few", &[7], &[1, 0, 2], &[5, 3], 4)?;
     show_dealing(rt, "key symbol 251", &[251], &[1, 0, 2], &[5, 3], 5)?;
     show_dealing(rt, "value coefficient 251", &[7], &[251, 0, 2], &[5, 3], 5)?;
-    show_dealing(rt, "tag coefficient 63001", &[7], &[1, 0, 2], &[5, 63001], 5)?;
-    show_dealing(rt, "highest value coefficient 0", &[7], &[1, 2, 0], &[5, 3], 5)?;
-    show_dealing(rt, "largest codes", &[250], &[250, 250, 250], &[63000, 63000], 5)?;
-    show_dealing(rt, "highest tag coefficient 0", &[7], &[1, 0, 2], &[5, 0], 5)
+    show_dealing(
+        rt,
+        "tag coefficient 63001",
+        &[7],
+        &[1, 0, 2],
+        &[5, 63001],
+        5,
+    )?;
+    show_dealing(
+        rt,
+        "highest value coefficient 0",
+        &[7],
+        &[1, 2, 0],
+        &[5, 3],
+        5,
+    )?;
+    show_dealing(
+        rt,
+        "largest codes",
+        &[250],
+        &[250, 250, 250],
+        &[63000, 63000],
+        5,
+    )?;
+    show_dealing(
+        rt,
+        "highest tag coefficient 0",
+        &[7],
+        &[1, 0, 2],
+        &[5, 0],
+        5,
+    )
 }
 
-fn show_dealing(rt: &LibcRuntime, name: &str, key: &[u64], values: &[u64], tags: &[u64], room: usize) -> io::Result<()> {
+fn show_dealing(
+    rt: &LibcRuntime,
+    name: &str,
+    key: &[u64],
+    values: &[u64],
+    tags: &[u64],
+    room: usize,
+) -> io::Result<()> {
     let Ok(f) = figures(5, 4, 1, 1) else {
         return println!(rt, "no figures");
     };
-    let was = Pair {
-        value: 99,
-        tag: 99,
-    };
+    let was = Pair { value: 99, tag: 99 };
     let mut buffer = [was; 5];
     if room > 5 {
         return println!(rt, "no room");

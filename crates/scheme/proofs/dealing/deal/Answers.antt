@@ -1,70 +1,9 @@
-use mathlib.Core.Path.{_≡_, _∙_, ap}
-use mathlib.Core.List.{List, _++_}
-use Prim.Native.Nat.{ℕ, _+_, _-_, _*_, _<_, _≤_}
-use native.Mathlib.Omega.{arith}
-use lib.ListN.{length, drop, take}
-use borrow.Rule.Slice.PartMut.{putMid}
-use Rattle.std.specs.Iters.{counting}
-use Rattle.std.specs.Joined.{joined}
-use Rattle.std.specs.declared.result.Result.{Result}
-use Rattle.std.specs.declared.result.Result.the-variants.{Ok}
-use Rattle.std.proofs.shelf.Counted.{length-map-counting}
-use Rattle.std.proofs.shelf.Lists.{length-take-le, length-drop}
-use Rattle.scheme.specs.Dealing.{dealt-pair, dealt-share, dealt-shares, settled, value-polynomial, tag-polynomial}
-use Rattle.scheme.specs.declared.types.Pair.{Pair}
-use Rattle.scheme.proofs.Filling.{filled-all, groups-more}
-use Rattle.scheme.proofs.Tops.{place-ends}
+use mathlib.Core.Path.{sym}
+use lib.ListN.{length}
+use Rattle.scheme.proofs.Acceptance.{accepted}
 use Rattle.scheme.proofs.dealing.deal.Needs as need
 
-pub part-share-end : need.part-share-end
-part-share-end g c =
-    let f = c .args .figures .now in
-    let a = c .in-Continue-ask .ensures tt .accepted in
-    let room = a .1 in
-    let long = c .loop-i .kept .shares in
-    omega (arith, place-ends (f .d) (c .loop-i .i) (f .n) (c .loop-i-test .taken))
-
-pub deal-share-requires : need.deal-share-requires
-deal-share-requires g c κs =
-    let f = c .args .figures .now in
-    let a = c .in-Continue-ask .ensures tt .accepted in
-    let room = a .1 in
-    let long = c .loop-i .kept .shares in
-    let start = c .loop-i .i * f .d in
-    let ends : start + f .d ≤ length (c .loop-i .shares) = omega (arith, place-ends (f .d) (c .loop-i .i) (f .n) (c .loop-i-test .taken)) in
-    let large = g .F·Field·met .laws .on-codes .at-least-33 in
-    let many = f .participants .1 in
-    let width : start + f .d - start ≡ f .d = omega arith in
-    (a .0, (omega arith, length-take-le (start + f .d - start) (drop start (c .loop-i .shares)) (simp length-drop (omega arith)) ∙ width))
-
-pub loop-i-again : need.loop-i-again
-loop-i-again g c =
-    let f = c .args .figures .now in
-    let g1 = value-polynomial f (c .args .key .now) (c .args .values .now) in
-    let h1 = tag-polynomial f (c .args .tags .now) in
-    let share : ℕ → List Pair = dealt-share (g .F·Field .codes) (g .F·Doublable .u) (g .F·Doublable .v) f g1 h1 in
-    let start = c .loop-i .i * f .d in
-    let k = start + f .d - start in
-    ap (λ (s : List Pair). putMid start k s (c .deal-share .last .share)) (c .loop-i .inv)
-    ∙ groups-more share (f .d)
-    (λ i. length-map-counting (λ j. dealt-pair (g .F·Field .codes) (g .F·Doublable .u) (g .F·Doublable .v) (g1 j) (h1 j) i) 0 (f .d))
-    (c .args .shares .now) (c .deal-share .last .share) (c .loop-i .i) k (c .deal-share .ensures) (omega arith)
-
-pub returns : need.returns
-returns g c =
-    let C = g .F·Field .codes in
-    let u = g .F·Doublable .u in
-    let v = g .F·Doublable .v in
-    let f = c .args .figures .now in
-    let key = c .args .key .now in
-    let values = c .args .values .now in
-    let tags = c .args .tags .now in
-    let buffer = c .args .shares .now in
-    let share : ℕ → List Pair = dealt-share C u v f (value-polynomial f key values) (tag-polynomial f tags) in
-    let room = c .in-Continue-ask .ensures tt .accepted .1 in
-    let all : c .loop-i .i ≡ f .n = omega arith in
-    let dealt : c .loop-i .shares ≡ dealt-shares C u v f key values tags =
-    c .loop-i .inv ∙ ap (λ n. joined share (counting 1 n) ++ drop (n * f .d) buffer) all
-    ∙ filled-all (joined share (counting 1 (f .n))) buffer (f .n * f .d) (omega arith) in
-    ap (λ (l : List Pair). (Ok (f .n * f .d), l)) dealt
-    ∙ ap (λ o. settled C u v f o (dealt-shares C u v f key values tags) buffer) (c .in-Continue-ask .ensures tt .refusal)
+pub write-shares-requires : need.write-shares-requires
+write-shares-requires g c κs =
+    accepted (g .F·Field .codes) (g .F·Doublable .u) (g .F·Doublable .v) (c .args .figures .now) (c .args .key .now) (c .args .values .now) (c .args .tags .now)
+    (length (c .args .shares .now)) (sym (c .in-Continue-ask .ensures tt))

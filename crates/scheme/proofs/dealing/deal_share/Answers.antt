@@ -63,7 +63,7 @@ pub returns : need.returns
 returns g c =
     let f = c .args .figures .now in
     let pair : ℕ → Pair = λ j.
-        dealt-pair (g .F·Field .codes) (g .F·Doublable .u) (g .F·Doublable .v) (value-polynomial f (c .args .key .now) (c .args .values .now) j) (tag-polynomial f (c .args .tags .now) j) (c .args .i) in
+    dealt-pair (g .F·Field .codes) (g .F·Doublable .u) (g .F·Doublable .v) (value-polynomial f (c .args .key .now) (c .args .values .now) j) (tag-polynomial f (c .args .tags .now) j) (c .args .i) in
     let all : c .loop-j .j ≡ f .d = omega arith in
     c .loop-j .inv ∙ filled-all (map pair (counting 0 (c .loop-j .j))) (c .args .share .now) (c .loop-j .j) (omega (arith, c .pre .1 .1))
     ∙ ap (λ n. map pair (counting 0 n)) all

@@ -10,4 +10,4 @@ abbrev pub Inv-loop-j : given.InvT-loop-j
 Inv-loop-j g l =
     l .share
     ≡ map (λ j. dealt-pair (g .F·Field .codes) (g .F·Doublable .u) (g .F·Doublable .v) (value-polynomial (l .figures) (l .key) (l .values) j) (tag-polynomial (l .figures) (l .tags) j) (l .i)) (counting 0 (l .j))
-      ++ drop (l .j) (l .entry .share)
+    ++ drop (l .j) (l .entry .share)
