@@ -1,10 +1,10 @@
 -- The pairs a + b·y with y·y = u·y + v are a field where r·r = u·r + v has no root.
 -- Assumes nothing.
 use mathlib.Core.Path.{_≡_, refl, sym, ap, ap₂, _∙_}
-use mathlib.Core.List.{List, [], _∷_}
+use mathlib.Core.List.{[], _∷_}
 use Rattle.algebra.specs.Field.{Field}
 use Rattle.algebra.specs.Doubling.{Operations, operations, Twice, twice, norm, doubled, No-root, Doubling-gives-a-field}
-use Rattle.algebra.proofs.Rules.{zero-add, mul-zero, zero-mul, zero-factor}
+use Rattle.algebra.proofs.Rules.{mul-zero, zero-mul, zero-factor}
 use Rattle.algebra.proofs.Normal.{Expr, v, :0, :1, _:+_, _:-_, _:*_, :-_, value, Same-form, ring, ring-from}
 
 -- expressions have operations too, with no laws: an operation of the doubled field at expressions is its own expression

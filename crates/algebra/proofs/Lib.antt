@@ -1,3 +1,14 @@
 pub mod Rules
 pub mod Normal
 pub mod Doubled
+pub mod Polynomials
+pub mod Counting
+pub mod Curves
+pub mod Filter
+pub mod Unique
+pub mod Decoding
+pub mod Moves
+pub mod Growing
+pub mod Candidate
+pub mod Coefficients
+pub mod Theorems

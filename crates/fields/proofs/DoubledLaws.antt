@@ -9,8 +9,8 @@ use Rattle.algebra.specs.Field.{Field}
 use Rattle.algebra.proofs.Doubled.{doubled-field}
 use Rattle.fields.specs.Laws.{Codes, Laws, Doublable-laws}
 use Rattle.fields.specs.Doubled.{join, sum2, negative2, low-product, high-product, product2, doubled}
-use Rattle.fields.proofs.InverseLaws.{zero-below}
-use Rattle.fields.proofs.Elements.{elements, numbers, Coding, laws-of, inverses}
+use Rattle.fields.specs.Elements.{elements, zero-below}
+use Rattle.fields.proofs.Elements.{numbers, Coding, laws-of, inverses}
 
 -- ---- a code and its two parts
 

@@ -10,6 +10,7 @@ use native.Mathlib.Omega.{arith}
 use lib.Dec.{T, eqb, ltb, eqb→eq, ltb→lt}
 use lib.ListN.{getD}
 use Rattle.std.proofs.shelf.Tests.{cond-both, eqb-true, eqb-false, eq-eqb, ne-eqb, cond-true, cond-false, cases-eq}
+use Rattle.fields.specs.Elements.{one-below}
 use Rattle.fields.specs.Laws.{Codes, Laws}
 use Rattle.fields.specs.Inverse.{inverse-under, Inverse-of, Inverse-table}
 use Rattle.fields.proofs.Tests.{all-below, at-each}
@@ -39,17 +40,11 @@ module _ (product : ℕ → ℕ → ℕ) where
       (λ t. absurd (h n (omega arith) (eqb-true (product a n) 1 t))) (λ f. none n a (λ b l. h b (omega arith)))
 
 module _ {C : Codes} (L : Laws C) where
-  pub zero-below : 0 < C .size
-  zero-below = let h : 33 ≤ C .size = L .at-least-33 in omega arith
-
-  pub one-below : 1 < C .size
-  one-below = let h : 33 ≤ C .size = L .at-least-33 in omega arith
-
   -- b = b·(a·c) = (a·b)·c = c
   only : (a b c : ℕ) → a < C .size → b < C .size → c < C .size → C .product a b ≡ 1 → C .product a c ≡ 1 → b ≡ c
   only a b c ha hb hc eb ec =
       sym (L .product-one b hb) ∙ ap (C .product b) (sym ec) ∙ sym (L .product-assoc b a c hb ha hc)
-      ∙ ap (λ t. C .product t c) (L .product-comm b a hb ha ∙ eb) ∙ L .product-comm 1 c one-below hc ∙ L .product-one c hc
+      ∙ ap (λ t. C .product t c) (L .product-comm b a hb ha ∙ eb) ∙ L .product-comm 1 c (one-below L) hc ∙ L .product-one c hc
 
   pub inverse-is : (a b : ℕ) → a < C .size → Inverse-of C a b → b ≡ C .inverse a
   inverse-is a b h i =

@@ -2,6 +2,7 @@
 // elements are numbered by the codes from 0 to the size less one, and every call is told by the codes.
 ghost use Prim.Native.Nat.{ℕ, _≤_};
 ghost use Rattle.fields.specs.Laws.{Codes, Doublable-laws, Field-laws};
+ghost use Rattle.fields.specs.Room.{Small};
 ghost use Rattle.std.specs.Options.{Cases as BySome};
 ghost use mathlib.Core.Path.{_≡_};
 
@@ -16,6 +17,9 @@ pub trait Field {
     ghost code: { Self·Elem → ℕ };
 
     law laws: { Field-laws Self·Elem codes code };
+
+    // an element is small in memory: it takes no more bytes than the field has elements
+    law room: { Small Self·Elem·row (codes .size) };
 
     fn size() -> u64
         ensures { λ r. ⌜ r ≡ codes .size ⌝ };

@@ -1,5 +1,10 @@
 pub mod Acceptance
 pub mod Asking
+pub mod Enumerated
 pub mod Filling
+pub mod Fitted
+pub mod Memory
+pub mod PointQuestions
+pub mod Points
 pub mod Polynomials
 pub mod Tops

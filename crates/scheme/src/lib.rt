@@ -1,11 +1,19 @@
 // The scheme: its figures, and the dealing of a key into shares.
+mod arithmetic;
 mod dealing;
+mod decoding;
 mod figures_call;
+mod fitting;
+mod held;
 mod polynomial;
 mod types;
 
 pub use dealing::deal;
 pub use figures_call::figures;
+pub use fitting::decode;
+pub use fitting::interpolate;
+pub use fitting::value_at;
+pub use held::Polynomial;
 pub use types::DealFault;
 pub use types::Figures;
 pub use types::FiguresFault;

@@ -49,3 +49,19 @@ pub enum DealFault {
     // for k of 2 and more, the highest value coefficient of some place is zero
     TopCoefficient,
 }
+
+// A point of the plane over a field: a polynomial passes through it where its value at x is y.
+#[derive(Clone, Copy)]
+pub struct Point<E> {
+    pub x: E,
+    pub y: E,
+}
+
+// Why points are refused.
+#[derive(Clone, Copy)]
+pub enum PointsFault {
+    // there are too few, or more than 32
+    Count,
+    // two have one abscissa
+    Repeated,
+}

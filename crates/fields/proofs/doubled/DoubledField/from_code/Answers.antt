@@ -1,5 +1,5 @@
 use native.Mathlib.Nat.{le-div-iff-mul-le}
-use Rattle.fields.proofs.InverseLaws.{zero-below}
+use Rattle.fields.specs.Elements.{zero-below}
 use Rattle.fields.proofs.doubled.DoubledField.from_code.Needs as need
 
 -- the high part is no code: p ≤ n / p, so that p·p ≤ n

@@ -1,0 +1,96 @@
+// The polynomial that passes through points, or through all but a few of them.
+ghost use Prim.Native.Nat.{_*_, _+_, _≤_};
+ghost use Rattle.scheme.specs.Fitting.{decoded, distinct, interpolated, points-refusal};
+ghost use Rattle.scheme.specs.Held.{decode-told, interpolate-told, point-codes, polynomial-told, refusal-of};
+ghost use Rattle.scheme.specs.Polynomial.{value-at};
+ghost use Rattle.scheme.specs.Questions.{every};
+ghost use lib.Dec.{eqb};
+ghost use lib.ListN.{length};
+ghost use mathlib.Core.Bool.{not};
+ghost use mathlib.Core.List.{map};
+ghost use mathlib.Core.Path.{_≡_};
+use crate::arithmetic::value;
+use crate::decoding::candidate;
+use crate::decoding::misses;
+use crate::decoding::read_off;
+use crate::decoding::unit;
+use crate::held::Polynomial;
+use crate::held::Ratio;
+use crate::types::Point;
+use crate::types::PointsFault;
+use fields::Field;
+
+// Whether no point has the abscissa x.
+fn is_new<F: Field>(points: &[Point<F::Elem>], x: F::Elem) -> bool
+    ensures { λ r. ⌜ r ≡ every (λ b. not (eqb (code x) b)) (map (λ p. code (p .x)) (now (points .entry))) ⌝ }
+{
+    for i in 0..points.len() {
+        let p = points[i];
+        if F::to_code(x) == F::to_code(p.x) {
+            return false;
+        }
+    }
+    true
+}
+
+// Whether no two points have one abscissa.
+fn are_distinct<F: Field>(points: &[Point<F::Elem>]) -> bool
+    ensures { λ r. ⌜ r ≡ distinct (map (λ p. code (p .x)) (now (points .entry))) ⌝ }
+{
+    for i in 0..points.len() {
+        let p = points[i];
+        if !is_new::<F>(&points[i + 1..], p.x) {
+            return false;
+        }
+    }
+    true
+}
+
+// Puts the questions about points: from `least` to 32 of them, with distinct abscissae.
+fn ask_points<F: Field>(points: &[Point<F::Elem>], least: usize) -> Result<(), PointsFault>
+    ensures { λ r. ⌜ refusal-of r ≡ points-refusal codes (point-codes code (now (points .entry))) least ⌝ }
+{
+    if points.len() < least || points.len() > 32 {
+        return Err(PointsFault::Count);
+    }
+    if !are_distinct::<F>(points) {
+        return Err(PointsFault::Repeated);
+    }
+    Ok(())
+}
+
+// The polynomial's value at x.
+pub fn value_at<F: Field>(f: &Polynomial<F::Elem>, x: F::Elem) -> F::Elem
+    ensures { λ r. ⌜ code r ≡ value-at codes (polynomial-told code (now (f .entry))) (code x) ⌝ }
+{
+    value::<F>(f, x)
+}
+
+// The one polynomial with a coefficient for each point that passes through all of them.
+pub fn interpolate<F: Field>(points: &[Point<F::Elem>]) -> Result<Polynomial<F::Elem>, PointsFault>
+    ensures { λ r. ⌜ interpolate-told code r ≡ interpolated codes (point-codes code (now (points .entry))) ⌝ }
+{
+    ask_points::<F>(points, 1)?;
+    let n = points.len();
+    let one = unit::<F>();
+    let Ratio { top, bottom: _ } = read_off::<F>(&one, points, n, n - 1);
+    Ok(top)
+}
+
+// The polynomial of t + 1 coefficients that passes through all but at most t of the points, or nothing where there is none.
+pub fn decode<F: Field>(
+    points: &[Point<F::Elem>],
+    t: usize,
+) -> Result<Option<Polynomial<F::Elem>>, PointsFault>
+    ensures { λ r. ⌜ decode-told code r ≡ decoded codes (point-codes code (now (points .entry))) t ⌝ }
+{
+    if t > 10 {
+        return Err(PointsFault::Count);
+    }
+    ask_points::<F>(points, 3 * t + 1)?;
+    let f = candidate::<F>(points, t);
+    if f.len != t + 1 || misses::<F>(&f, points) > t {
+        return Ok(None);
+    }
+    Ok(Some(f))
+}
