@@ -1,4 +1,4 @@
-// The scheme: its figures, and the dealing of a key into shares.
+// The scheme: its figures, the dealing of a key into shares, and the polynomials that opening rests on.
 mod arithmetic;
 mod dealing;
 mod decoding;
@@ -20,3 +20,5 @@ pub use types::FiguresFault;
 pub use types::Pair;
 pub use types::PairDebug;
 pub use types::PairPartialEq;
+pub use types::Point;
+pub use types::PointsFault;
