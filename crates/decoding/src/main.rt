@@ -86,7 +86,12 @@ fn point<F: Field>(t: usize, i: u8, wrong: bool) -> Point<F::Elem> {
 }
 
 // The points, of which `errors` are wrong, spread over them.
-fn points<F: Field>(heap: Global, t: usize, count: u8, errors: u8) -> Result<Vec<Point<F::Elem>>, AllocError> {
+fn points<F: Field>(
+    heap: Global,
+    t: usize,
+    count: u8,
+    errors: u8,
+) -> Result<Vec<Point<F::Elem>>, AllocError> {
     let mut list = Vec::new(heap);
     for i in 0..count {
         let wrong = (u64::from(i) * 7 + 3) % u64::from(count) < u64::from(errors);
@@ -106,7 +111,10 @@ fn is_source<F: Field>(f: &Polynomial<F::Elem>, t: usize) -> bool {
     true
 }
 
-fn told<F: Field>(answer: &Result<Option<Polynomial<F::Elem>>, PointsFault>, t: usize) -> &'static str {
+fn told<F: Field>(
+    answer: &Result<Option<Polynomial<F::Elem>>, PointsFault>,
+    t: usize,
+) -> &'static str {
     match answer {
         Ok(Some(f)) => {
             if is_source::<F>(f, t) {

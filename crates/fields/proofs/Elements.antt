@@ -49,6 +49,10 @@ module _ {E : Type 0} {C : Codes} {code : E → ℕ} (L : Field-laws E C code) w
   unfolding elements
   add-code a b = code-add L a b
 
+  pub neg-code : (a : E) → code (elements L .neg a) ≡ C .negative (code a)
+  unfolding elements
+  neg-code a = code-neg L a
+
   pub mul-code : (a b : E) → code (elements L .mul a b) ≡ C .product (code a) (code b)
   unfolding elements
   mul-code a b = code-mul L a b

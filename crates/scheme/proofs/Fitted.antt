@@ -200,12 +200,12 @@ module _ {E : Type 0} {C : Codes} {code : E → ℕ} (L : Field-laws E C code) w
     -- ---- what fits
 
     module _ (t : ℕ) (apart : distinct (map (λ p. p .0) P) ≡ true) where
-      fits-few : (f : List E) → fits C P t (map code f) ≡ true → errors X x y f (down n) ≤ t
+      pub fits-few : (f : List E) → fits C P t (map code f) ≡ true → errors X x y f (down n) ≤ t
       fits-few f e =
           let long : length P ≡ n = length-map points (λ (p : Point E). (code (p .x), code (p .y))) in
           omega (arith, leb-true _ _ e, errors-all f)
 
-      few-fits : (f : List E) → errors X x y f (down n) ≤ t → fits C P t (map code f) ≡ true
+      pub few-fits : (f : List E) → errors X x y f (down n) ≤ t → fits C P t (map code f) ≡ true
       few-fits f h =
           let long : length P ≡ n = length-map points (λ (p : Point E). (code (p .x), code (p .y))) in
           le-leb _ _ (omega (arith, errors-all f))

@@ -1,5 +1,6 @@
 pub mod Acceptance
 pub mod Asking
+pub mod Discrepancy
 pub mod Enumerated
 pub mod Filling
 pub mod Fitted

@@ -23,5 +23,6 @@ module _ {E : Type 0} (X : Field E) (points : List (Point E)) (i : ℕ) (p : Poi
   pub at-y : p .y ≡ place X (ordinates points) i
   at-y = ap (λ (a : Point E). a .y) is ∙ sym (getD-map (λ a. a .y) points i p (X .zero) h)
 
-pub code-read : {E : Type 0} (f : Point E → ℕ) (points : List (Point E)) (i : ℕ) (p : Point E) → p ≡ getD points i p → i < length points → getD (map f points) i 0 ≡ f p
-code-read f points i p is h = getD-map f points i p 0 h ∙ ap f (sym is)
+-- what is told of it
+pub told-at : {E Y : Type 0} (f : Point E → Y) (e : Y) (points : List (Point E)) (i : ℕ) (p : Point E) → p ≡ getD points i p → i < length points → getD (map f points) i e ≡ f p
+told-at f e points i p is h = getD-map f points i p e h ∙ ap f (sym is)

@@ -2,7 +2,8 @@
 ghost use Prim.Native.Nat.{_+_, _<_, _≤_, max};
 ghost use Rattle.algebra.specs.Polynomial.{eval, lin, plus, scale, times-root};
 ghost use Rattle.fields.specs.Elements.{Over};
-ghost use Rattle.scheme.specs.Held.{coefficients};
+ghost use Rattle.scheme.specs.Held.{coefficients, polynomial-told};
+ghost use Rattle.scheme.specs.Polynomial.{value-at};
 ghost use lib.Dec.{T};
 ghost use lib.ListN.{length, take};
 ghost use mathlib.Core.Path.{_≡_};
@@ -95,4 +96,11 @@ pub(crate) fn add_multiple<F: Field>(
     if p.len < r.len {
         p.len = r.len;
     }
+}
+
+// The polynomial's value at x.
+pub fn value_at<F: Field>(f: &Polynomial<F::Elem>, x: F::Elem) -> F::Elem
+    ensures { λ r. ⌜ code r ≡ value-at codes (polynomial-told code (now (f .entry))) (code x) ⌝ }
+{
+    value::<F>(f, x)
 }

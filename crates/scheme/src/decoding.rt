@@ -1,10 +1,9 @@
 // Interpolation and decoding with errors, over any field and without a heap.
 ghost use Prim.Native.Nat.{_*_, _+_, _<_, _≤_};
-ghost use Rattle.algebra.specs.Decoder.{add-multiple as addedMultiple, answer, chosen, collected, discrepancy as discrepancyOf, down, errors, extended, offered, place, raise as raised, run as runOf, start as startOf, step as stepOf};
-ghost use Rattle.algebra.specs.Polynomial.{eval};
+ghost use Rattle.algebra.specs.Decoder.{add-multiple as addedMultiple, answer, chosen, collected, down, extended, offered, place, raise as raised, run as runOf, start as startOf, step as stepOf};
 ghost use Rattle.fields.specs.Elements.{Over};
-ghost use Rattle.scheme.specs.Held.{Shorter, abscissae, coefficients, ordinates, ratio, state};
-ghost use lib.Dec.{T};
+ghost use Rattle.scheme.specs.Held.{Shorter, abscissae, coefficients, ordinates, polynomial-told, ratio, state};
+ghost use Rattle.scheme.specs.Polynomial.{value-at};
 ghost use lib.ListN.{length};
 ghost use mathlib.Core.List.{[], _∷_};
 ghost use mathlib.Core.Path.{_≡_};
@@ -12,6 +11,7 @@ use crate::arithmetic::add_multiple;
 use crate::arithmetic::is_zero;
 use crate::arithmetic::multiply_root;
 use crate::arithmetic::value;
+use crate::arithmetic::value_at;
 use crate::held::Polynomial;
 use crate::held::Ratio;
 use crate::held::State;
@@ -57,10 +57,10 @@ fn combine<F: Field>(r: &mut Ratio<F::Elem>, c: F::Elem, other: &Ratio<F::Elem>)
 
 // How far top is from y·bottom at x.
 fn discrepancy<F: Field>(r: &Ratio<F::Elem>, x: F::Elem, y: F::Elem) -> F::Elem
-    ensures { λ d. ⌜ Over codes code (λ X. d ≡ discrepancyOf X {I = Unit {0}} (λ _. x) (λ _. y) (ratio X (now (r .entry))) tt) ⌝ }
+    ensures { λ d. ⌜ code d ≡ codes .sum (value-at codes (polynomial-told code (now (r .entry) .top)) (code x)) (codes .negative (codes .product (code y) (value-at codes (polynomial-told code (now (r .entry) .bottom)) (code x)))) ⌝ }
 {
-    let top = value::<F>(&r.top, x);
-    let bottom = value::<F>(&r.bottom, x);
+    let top = value_at::<F>(&r.top, x);
+    let bottom = value_at::<F>(&r.bottom, x);
     F::add(top, F::neg(F::mul(y, bottom)))
 }
 
@@ -163,29 +163,6 @@ pub(crate) fn read_off<F: Field>(
         offer::<F>(e, t, &mut r, p.x, p.y);
     }
     r
-}
-
-// Whether f passes through the point.
-fn passes<F: Field>(f: &Polynomial<F::Elem>, x: F::Elem, y: F::Elem) -> bool
-    ensures { λ r. ⌜ Over codes code (λ X. (T r → eval X (coefficients (now (f .entry))) x ≡ y) × (eval X (coefficients (now (f .entry))) x ≡ y → T r)) ⌝ }
-{
-    let here = value::<F>(f, x);
-    F::to_code(here) == F::to_code(y)
-}
-
-// How many of the points f misses.
-pub(crate) fn misses<F: Field>(f: &Polynomial<F::Elem>, points: &[Point<F::Elem>]) -> usize
-    requires { ⌜ length (now points) < 63 ⌝ }
-    ensures { λ r. ⌜ Over codes code (λ X. r ≡ errors X (place X (abscissae (now (points .entry)))) (place X (ordinates (now (points .entry)))) (coefficients (now (f .entry))) (down (length (now (points .entry))))) ⌝ }
-{
-    let mut count = 0;
-    for i in 0..points.len() {
-        let p = points[i];
-        if !passes::<F>(f, p.x, p.y) {
-            count += 1;
-        }
-    }
-    count
 }
 
 // The one polynomial that can miss at most t points, by the first 3·t + 1 of them.

@@ -1,17 +1,16 @@
 // The polynomial that passes through points, or through all but a few of them.
-ghost use Prim.Native.Nat.{_*_, _+_, _≤_};
-ghost use Rattle.scheme.specs.Fitting.{decoded, distinct, interpolated, points-refusal};
+ghost use Prim.Native.Nat.{_*_, _+_, _-_, _≤_};
+ghost use Rattle.scheme.specs.Fitting.{decoded, distinct, interpolated, passes, points-refusal};
 ghost use Rattle.scheme.specs.Held.{decode-told, interpolate-told, point-codes, polynomial-told, refusal-of};
-ghost use Rattle.scheme.specs.Polynomial.{value-at};
 ghost use Rattle.scheme.specs.Questions.{every};
-ghost use lib.Dec.{eqb};
+ghost use Rattle.std.specs.shelf.Lists.{kept-by};
+ghost use lib.Dec.{eqb, leb};
 ghost use lib.ListN.{length};
-ghost use mathlib.Core.Bool.{not};
+ghost use mathlib.Core.Bool.{_&&_, not};
 ghost use mathlib.Core.List.{map};
 ghost use mathlib.Core.Path.{_≡_};
-use crate::arithmetic::value;
+use crate::arithmetic::value_at;
 use crate::decoding::candidate;
-use crate::decoding::misses;
 use crate::decoding::read_off;
 use crate::decoding::unit;
 use crate::held::Polynomial;
@@ -59,11 +58,26 @@ fn ask_points<F: Field>(points: &[Point<F::Elem>], least: usize) -> Result<(), P
     Ok(())
 }
 
-// The polynomial's value at x.
-pub fn value_at<F: Field>(f: &Polynomial<F::Elem>, x: F::Elem) -> F::Elem
-    ensures { λ r. ⌜ code r ≡ value-at codes (polynomial-told code (now (f .entry))) (code x) ⌝ }
+// Through how many of the points f passes.
+fn agreements<F: Field>(f: &Polynomial<F::Elem>, points: &[Point<F::Elem>]) -> usize
+    ensures { λ r. ⌜ r ≡ length (kept-by (passes codes (point-codes code (now (points .entry))) (polynomial-told code (now (f .entry)))) (point-codes code (now (points .entry)))) ⌝ }
 {
-    value::<F>(f, x)
+    let mut count = 0;
+    for i in 0..points.len() {
+        let p = points[i];
+        if F::to_code(value_at::<F>(f, p.x)) == F::to_code(p.y) {
+            count += 1;
+        }
+    }
+    count
+}
+
+// Whether f has t + 1 coefficients and passes through all but at most t of the points.
+fn fits<F: Field>(f: &Polynomial<F::Elem>, points: &[Point<F::Elem>], t: usize) -> bool
+    requires { ⌜ 3 * t + 1 ≤ length (now points) ⌝ ∗ ⌜ t ≤ 10 ⌝ }
+    ensures { λ r. ⌜ r ≡ (eqb (now (f .entry) .len) (t + 1) && leb (length (now (points .entry)) - t) (length (kept-by (passes codes (point-codes code (now (points .entry))) (polynomial-told code (now (f .entry)))) (point-codes code (now (points .entry)))))) ⌝ }
+{
+    f.len == t + 1 && agreements::<F>(f, points) >= points.len() - t
 }
 
 // The one polynomial with a coefficient for each point that passes through all of them.
@@ -89,7 +103,7 @@ pub fn decode<F: Field>(
     }
     ask_points::<F>(points, 3 * t + 1)?;
     let f = candidate::<F>(points, t);
-    if f.len != t + 1 || misses::<F>(&f, points) > t {
+    if !fits::<F>(&f, points, t) {
         return Ok(None);
     }
     Ok(Some(f))

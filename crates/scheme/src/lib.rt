@@ -8,11 +8,11 @@ mod held;
 mod polynomial;
 mod types;
 
+pub use arithmetic::value_at;
 pub use dealing::deal;
 pub use figures_call::figures;
 pub use fitting::decode;
 pub use fitting::interpolate;
-pub use fitting::value_at;
 pub use held::Polynomial;
 pub use types::DealFault;
 pub use types::Figures;

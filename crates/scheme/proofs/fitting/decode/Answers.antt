@@ -1,23 +1,26 @@
 use mathlib.Core.Path.{_≡_, sym, ap, _∙_}
-use mathlib.Core.List.{List, map}
-use Prim.Native.Nat.{ℕ, _+_, _*_, _≤_}
+use mathlib.Core.Bool.{true, false, _&&_, true≢false}
+use mathlib.Core.List.{List}
+use Prim.Native.Nat.{ℕ, _+_, _-_, _*_, _≤_}
 use native.Mathlib.Omega.{arith}
+use lib.Dec.{eqb, leb}
 use lib.ListN.{length}
 use Rattle.std.specs.declared.option.Option.{Option}
 use Rattle.std.specs.declared.option.Option.the-variants.{Some, None}
+use Rattle.std.specs.shelf.Lists.{kept-by}
 use Rattle.std.proofs.shelf.Lists.{length-map}
+use Rattle.std.proofs.shelf.Tests.{and-from, and-parts, eq-eqb, eqb-true}
 use Rattle.algebra.specs.Decoder.{Fit, errors, place, down}
 use Rattle.algebra.proofs.Candidate.{fit-is-answer}
 use Rattle.fields.specs.Elements.{elements}
-use Rattle.scheme.specs.Fitting.{first, fitting, unless-refused}
-use Rattle.scheme.specs.Held.{coefficients, abscissae, ordinates, point-codes}
+use Rattle.scheme.specs.Fitting.{first, fitting, passes, unless-refused}
+use Rattle.scheme.specs.Held.{coefficients, abscissae, ordinates, point-codes, polynomial-told}
 use Rattle.scheme.specs.declared.types.PointsFault.{PointsFault}
-use Rattle.scheme.proofs.Fitted.{apart-x, fitting-one, fitting-none}
+use Rattle.scheme.proofs.Fitted.{apart-x, few-fits, fits-few, fitting-one, fitting-none}
 use Rattle.scheme.proofs.Memory.{roomy}
 use Rattle.scheme.proofs.PointQuestions.{settled}
 use Rattle.scheme.proofs.Points.{long}
 use Rattle.scheme.proofs.fitting.decode.Needs as need
-use Rattle.scheme.proofs.fitting.decode.Needs.{then-f-t·by·then-f-t, then-f-t·by·else-f-t·then-misses-t}
 
 pub candidate-f-requires : need.candidate-f-requires
 candidate-f-requires g c κs =
@@ -27,17 +30,17 @@ candidate-f-requires g c κs =
     let same : length P ≡ length points = length-map points _ in
     (roomy (g .F·Elem) (g .F·Field .codes) (g .F·Field·met .laws .on-codes) (g .F·Field·met .room) .polynomial, (omega (arith, s .at-least), omega arith))
 
-pub misses-requires : need.misses-requires
-misses-requires g c κs =
+pub fits-requires : need.fits-requires
+fits-requires g c κs =
     let points = c .args .points .now in
     let P = point-codes (g .F·Field .code) points in
     let s = settled (g .F·Field .codes) P (3 * c .args .t + 1) (sym (c .in-Continue-ask-points .ensures tt)) in
     let same : length P ≡ length points = length-map points _ in
-    (roomy (g .F·Elem) (g .F·Field .codes) (g .F·Field·met .laws .on-codes) (g .F·Field·met .room) .polynomial, omega (arith, s .at-most))
+    (roomy (g .F·Elem) (g .F·Field .codes) (g .F·Field·met .laws .on-codes) (g .F·Field·met .room) .polynomial, (omega (arith, s .at-least), omega arith))
 
 -- the candidate does not fit, and nothing else can
-pub returns-then-f-t : need.returns-then-f-t
-returns-then-f-t g c =
+pub returns-then-not-fits : need.returns-then-not-fits
+returns-then-not-fits g c =
     let L = g .F·Field·met .laws in
     let X = elements L in
     let C = g .F·Field .codes in
@@ -46,17 +49,19 @@ returns-then-f-t g c =
     let t = c .args .t in
     let P = point-codes (g .F·Field .code) points in
     let s = settled C P (3 * t + 1) (sym (c .in-Continue-ask-points .ensures tt)) in
+    let apart = s .distinct-abscissae in
     let same : length P ≡ n = length-map points _ in
     let enough : 3 * t + 1 ≤ n = omega (arith, s .at-least) in
     let f = c .candidate-f .result in
-    let only : (e : List (g .F·Elem .Denot)) → Fit X (abscissae points) (ordinates points) t n e → coefficients f ≡ e =
-    λ e fit. c .candidate-f .ensures L ∙ fit-is-answer X (abscissae points) (ordinates points) t n (apart-x L points (s .distinct-abscissae) n (omega arith)) enough e fit in
-    let none : fitting C P t ≡ _ =
-    fitting-none L points t (s .distinct-abscissae)
-    (λ e fit. elim (c .then-f-t .came) [
-      | then-f-t·by·then-f-t w ↦ w .if-f-t .taken (sym (long f) ∙ ap length (only e fit) ∙ fit .0)
-      | then-f-t·by·else-f-t·then-misses-t w ↦ omega (arith, w .if-misses-t .taken, w .misses .ensures L, ap (λ z. errors X (place X (abscissae points)) (place X (ordinates points)) z (down n)) (only e fit), fit .1)
-    ]) in
+    let told = polynomial-told (g .F·Field .code) f in
+    let none = fitting-none L points t apart (λ e fit.
+    let only : coefficients f ≡ e =
+    c .candidate-f .ensures L ∙ fit-is-answer X (abscissae points) (ordinates points) t n (apart-x L points apart n (omega arith)) enough e fit in
+    let long-enough : f .len ≡ t + 1 = sym (long f) ∙ ap length only ∙ fit .0 in
+    let few : errors X (place X (abscissae points)) (place X (ordinates points)) (coefficients f) (down n) ≤ t =
+    omega (arith, ap (λ z. errors X (place X (abscissae points)) (place X (ordinates points)) z (down n)) only, fit .1) in
+    let passed : leb (n - t) (length (kept-by (passes C P told) P)) ≡ true = ap (λ m. leb (m - t) (length (kept-by (passes C P told) P))) (sym same) ∙ few-fits L points t apart (coefficients f) few in
+    true≢false (sym (and-from (eqb (f .len) (t + 1)) (leb (n - t) (length (kept-by (passes C P told) P))) (eq-eqb _ _ long-enough) passed) ∙ sym (c .if-not-fits .ensures tt))) in
     ap (unless-refused C P None) (sym (ap first none))
     ∙ ap (λ (r : Option PointsFault). unless-refused C P r (first (fitting C P t))) (c .in-Continue-ask-points .ensures tt)
 
@@ -69,8 +74,12 @@ returns g c =
     let t = c .args .t in
     let P = point-codes (g .F·Field .code) points in
     let s = settled C P (3 * t + 1) (sym (c .in-Continue-ask-points .ensures tt)) in
+    let apart = s .distinct-abscissae in
     let same : length P ≡ n = length-map points _ in
     let f = c .candidate-f .result in
-    let one = fitting-one L points t (s .distinct-abscissae) (omega (arith, s .at-least)) (coefficients f) (long f ∙ c .if-f-t .left, omega (arith, c .misses .ensures L, c .if-misses-t .left)) in
+    let told = polynomial-told (g .F·Field .code) f in
+    let both = and-parts (eqb (f .len) (t + 1)) (leb (n - t) (length (kept-by (passes C P told) P))) (sym (c .if-not-fits .ensures tt)) in
+    let few = fits-few L points t apart (coefficients f) (ap (λ m. leb (m - t) (length (kept-by (passes C P told) P))) same ∙ both .1) in
+    let one = fitting-one L points t apart (omega (arith, s .at-least)) (coefficients f) (long f ∙ eqb-true _ _ (both .0), few) in
     ap (unless-refused C P None) (sym (ap first one))
     ∙ ap (λ (r : Option PointsFault). unless-refused C P r (first (fitting C P t))) (c .in-Continue-ask-points .ensures tt)

@@ -1,7 +1,7 @@
 use mathlib.Core.Path.{sym, ap, _∙_}
 use Rattle.scheme.specs.Held.{coefficients}
 use Rattle.scheme.proofs.Fitted.{value-code}
-use Rattle.scheme.proofs.fitting.value_at.Needs as need
+use Rattle.scheme.proofs.arithmetic.value_at.Needs as need
 
 pub returns : need.returns
 returns g c =
