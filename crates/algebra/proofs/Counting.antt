@@ -14,7 +14,17 @@ use Rattle.std.specs.shelf.Lists.{All}
 use Rattle.std.proofs.shelf.Lists.{length-map}
 use Rattle.std.proofs.shelf.Elements.{all-append, all-weaker, all-map}
 use Rattle.algebra.specs.Polynomial.{Distinct}
-use Rattle.algebra.specs.Count.{In, Exactly, AtEach, product, free}
+use Rattle.algebra.specs.Count.{In, Exactly, AtEach}
+
+-- the product of the numbers n i over the places
+abbrev pub product : {I : Type 0} → (I → ℕ) → List I → ℕ
+product n [] = 1
+product n (i ∷ is) = n i * product n is
+
+-- how many of the places are not fixed
+abbrev pub free : {I : Type 0} → (I → Bool) → List I → ℕ
+free fixed [] = 0
+free fixed (i ∷ is) = cond (fixed i) 0 1 + free fixed is
 
 -- what holds of each element of a list holds of what stands in it, and back
 pub all-in : {A : Type 0} (P : A → Type 0) (l : List A) (a : A) → All P l → In a l → P a

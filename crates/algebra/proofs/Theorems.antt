@@ -18,10 +18,10 @@ use Rattle.std.proofs.shelf.Lists.{length-map}
 use Rattle.algebra.specs.Field.{Field}
 use Rattle.algebra.specs.Doubling.{Below}
 use Rattle.algebra.specs.Polynomial.{Apart, eval}
-use Rattle.algebra.specs.Count.{In, Exactly, AtEach, free}
+use Rattle.algebra.specs.Count.{In, Exactly, AtEach}
 use Rattle.algebra.specs.Decoder.{errors}
 use Rattle.algebra.specs.Theorems.{abscissa, ordinate, Passes, agreements, Agreement-is-equality, One-interpolates, Exactly-q-pass, Given, with-further, all-points, Distinct-points, Exactly-these-tuples, One-decodes}
-use Rattle.algebra.proofs.Counting.{all-in, all-from-in, in-map, in-map-back, apart-map, exactly-iff, exactly-each, product-free}
+use Rattle.algebra.proofs.Counting.{all-in, all-from-in, in-map, in-map-back, apart-map, exactly-iff, exactly-each, free, product-free}
 use Rattle.algebra.proofs.Curves.{exactly-curves}
 use Rattle.algebra.proofs.Filter.{length-having}
 use Rattle.algebra.proofs.Polynomials.{same-list}

@@ -3,8 +3,7 @@
 use mathlib.Core.Path.{_≡_}
 use mathlib.Core.List.{List, [], _∷_}
 use mathlib.Core.Logic.{_⊎_}
-use mathlib.Core.Bool.{Bool, cond}
-use Prim.Native.Nat.{ℕ, _*_, _+_}
+use Prim.Native.Nat.{ℕ}
 use lib.ListN.{length}
 use Rattle.std.specs.shelf.Lists.{All}
 use Rattle.algebra.specs.Polynomial.{Distinct}
@@ -28,13 +27,3 @@ AtEach P [] [] = Unit {0}
 AtEach P [] (a ∷ l) = ⊥
 AtEach P (i ∷ is) [] = ⊥
 AtEach P (i ∷ is) (a ∷ l) = P i a × AtEach P is l
-
--- the product of the numbers n i over the places
-abbrev pub product : {I : Type 0} → (I → ℕ) → List I → ℕ
-product n [] = 1
-product n (i ∷ is) = n i * product n is
-
--- how many of the places are not fixed
-abbrev pub free : {I : Type 0} → (I → Bool) → List I → ℕ
-free fixed [] = 0
-free fixed (i ∷ is) = cond (fixed i) 0 1 + free fixed is

@@ -14,6 +14,7 @@ use scheme::PointsFault;
 use scheme::Polynomial;
 use scheme::decode;
 use scheme::interpolate;
+use scheme::interpolate_at;
 use scheme::value_at;
 use std::alloc::AllocError;
 use std::alloc::Global;
@@ -40,6 +41,10 @@ fn table<F: Field>(rt: &LibcRuntime, name: &str) -> io::Result<()> {
     show::<F>(rt, 32, 10, 11)?;
     show::<F>(rt, 33, 10, 0)?;
     show::<F>(rt, 30, 10, 0)?;
+    show_run::<F>(rt, 0)?;
+    show_run::<F>(rt, 11)?;
+    show_run::<F>(rt, 22)?;
+    show_run::<F>(rt, 27)?;
     show_other::<F>(rt)?;
     show_repeated::<F>(rt)?;
     show_interpolation::<F>(rt, 0)?;
@@ -136,6 +141,18 @@ fn show<F: Field>(rt: &LibcRuntime, count: u8, t: usize, errors: u8) -> io::Resu
     println!(rt, "points={count} t={t} errors={errors}: {text}")
 }
 
+// Ten errors one after another among 32 points; after the last point they go on at the first.
+fn show_run<F: Field>(rt: &LibcRuntime, first: u8) -> io::Result<()> {
+    let mut list = Vec::new(rt.alloc());
+    for i in 0..32u8 {
+        let wrong = (u64::from(i) + 32 - u64::from(first % 32)) % 32 < 10;
+        list.push(point::<F>(10, i, wrong))?;
+    }
+    let answer = decode::<F>(&list, 10);
+    let text = told::<F>(&answer, 10);
+    println!(rt, "points=32 t=10 errors=10 from={first}: {text}")
+}
+
 // Two errors among four points that lie on one line with a right point: that line passes through three of the four.
 fn show_other<F: Field>(rt: &LibcRuntime) -> io::Result<()> {
     let mut list = points::<F>(rt.alloc(), 1, 2, 0)?;
@@ -158,13 +175,22 @@ fn show_repeated<F: Field>(rt: &LibcRuntime) -> io::Result<()> {
     println!(rt, "points=5 t=1 one twice: {text}")
 }
 
+// Whether interpolation through the points has the source's value at a further abscissa.
+fn has_value<F: Field>(list: &[Point<F::Elem>], t: usize) -> bool {
+    let x = element::<F>(8);
+    match interpolate_at::<F>(list, x) {
+        Ok(y) => F::to_code(y) == F::to_code(source::<F>(t, x)),
+        Err(_) => false,
+    }
+}
+
 // Interpolation through `count` points of a polynomial with as many coefficients.
 fn show_interpolation<F: Field>(rt: &LibcRuntime, count: u8) -> io::Result<()> {
     let t = usize::from(count).saturating_sub(1);
     let list = points::<F>(rt.alloc(), t, count, 0)?;
     let text = match &interpolate::<F>(&list) {
         Ok(f) => {
-            if is_source::<F>(f, t) {
+            if is_source::<F>(f, t) && has_value::<F>(&list, t) {
                 "the source"
             } else {
                 "another polynomial"

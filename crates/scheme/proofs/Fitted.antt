@@ -129,11 +129,14 @@ module _ {E : Type 0} {C : Codes} {code : E → ℕ} (L : Field-laws E C code) w
     abbrev n : ℕ
     n = length points
 
+    long-P : length P ≡ n
+    long-P = length-map points (λ (p : Point E). (code (p .x), code (p .y)))
+
     -- where f passes through a point, its codes tell so
-    pass-yes : (f : List E) (p : Point E) → eval X f (p .x) ≡ p .y → passes C P (map code f) (code (p .x), code (p .y)) ≡ true
+    pass-yes : (f : List E) (p : Point E) → eval X f (p .x) ≡ p .y → passes C (map code f) (code (p .x), code (p .y)) ≡ true
     pass-yes f p e = eq-eqb _ _ (value-code f (p .x) ∙ ap code e)
 
-    pass-no : (f : List E) (p : Point E) → (eval X f (p .x) ≡ p .y → ⊥) → passes C P (map code f) (code (p .x), code (p .y)) ≡ false
+    pass-no : (f : List E) (p : Point E) → (eval X f (p .x) ≡ p .y → ⊥) → passes C (map code f) (code (p .x), code (p .y)) ≡ false
     pass-no f p k = ne-eqb _ _ (λ e. k (L .code-injective _ _ (sym (value-code f (p .x)) ∙ e)))
 
     -- whether f passes through p, and the points that it passes through
@@ -141,7 +144,7 @@ module _ {E : Type 0} {C : Codes} {code : E → ℕ} (L : Field-laws E C code) w
     on f p = X .same (eval X f (p .x)) (p .y)
 
     abbrev hit : List E → List (Point E) → List (ℕ × ℕ)
-    hit f l = kept-by (passes C P (map code f)) (point-codes code l)
+    hit f l = kept-by (passes C (map code f)) (point-codes code l)
 
     agreed : (f : List E) (l : List (Point E)) → length (hit f l) + missing (on f) l ≡ length l
     agreed f [] = refl
@@ -183,16 +186,14 @@ module _ {E : Type 0} {C : Codes} {code : E → ℕ} (L : Field-laws E C code) w
         by : (l : List (Point E)) → points ≡ l → code (x k) ≡ getD (map (λ p. p .0) P) k 0
         by [] e = absurd (omega (arith, ap length e))
         by (d ∷ l) e =
-            let long : length P ≡ n = length-map points (λ (p : Point E). (code (p .x), code (p .y))) in
-            let h2 : k < length P = omega arith in
+            let h2 : k < length P = omega (arith, long-P) in
             ap code (getD-map (λ (a : Point E). a .x) points k d (X .zero) h)
             ∙ sym (getD-map (λ (p : ℕ × ℕ). p .0) P k (0, 0) 0 h2 ∙ ap (λ (p : ℕ × ℕ). p .0) (getD-map (λ (a : Point E). (code (a .x), code (a .y))) points k d (0, 0) h))
 
     pub apart-x : distinct (map (λ p. p .0) P) ≡ true → (k : ℕ) → k ≤ n → Apart x (down k)
     apart-x e zero h = tt
     apart-x e (suc k) h =
-        let long : length (map (λ (p : ℕ × ℕ). p .0) P) ≡ n =
-        length-map P (λ (p : ℕ × ℕ). p .0) ∙ length-map points (λ (p : Point E). (code (p .x), code (p .y))) in (
+        let long : length (map (λ (p : ℕ × ℕ). p .0) P) ≡ n = length-map P (λ (p : ℕ × ℕ). p .0) ∙ long-P in (
           all-down (λ j. x j ≡ x k → ⊥) k (λ j l q. distinct-at (map (λ p. p .0) P) e j k l (omega arith) (sym (code-x j (omega arith)) ∙ ap code q ∙ code-x k (omega arith))),
           apart-x e k (omega arith),
         )
@@ -201,14 +202,10 @@ module _ {E : Type 0} {C : Codes} {code : E → ℕ} (L : Field-laws E C code) w
 
     module _ (t : ℕ) (apart : distinct (map (λ p. p .0) P) ≡ true) where
       pub fits-few : (f : List E) → fits C P t (map code f) ≡ true → errors X x y f (down n) ≤ t
-      fits-few f e =
-          let long : length P ≡ n = length-map points (λ (p : Point E). (code (p .x), code (p .y))) in
-          omega (arith, leb-true _ _ e, errors-all f)
+      fits-few f e = omega (arith, long-P, leb-true _ _ e, errors-all f)
 
       pub few-fits : (f : List E) → errors X x y f (down n) ≤ t → fits C P t (map code f) ≡ true
-      few-fits f h =
-          let long : length P ≡ n = length-map points (λ (p : Point E). (code (p .x), code (p .y))) in
-          le-leb _ _ (omega (arith, errors-all f))
+      few-fits f h = le-leb _ _ (omega (arith, long-P, errors-all f))
 
       -- a fitting list of codes is that of a list of elements that fits
       fit-elements : (g : List ℕ) → In g (polynomials (C .size) (suc t)) → fits C P t g ≡ true
@@ -238,17 +235,12 @@ module _ {E : Type 0} {C : Codes} {code : E → ℕ} (L : Field-laws E C code) w
 
     -- ---- interpolation
 
-    long-P : length P ≡ n
-    long-P = length-map points (λ (p : Point E). (code (p .x), code (p .y)))
+    through-passes : (f : List E) → Through X x y f (down n) → every (passes C (map code f)) P ≡ true
+    through-passes f h = every-from-kept (passes C (map code f)) P (omega (arith, long-P, errors-all f, none-missing (λ i. X .same (eval X f (x i)) (y i)) (down n) h))
 
-    through-passes : (f : List E) → Through X x y f (down n) → every (passes C P (map code f)) P ≡ true
-    unfolding long-P
-    through-passes f h = every-from-kept (passes C P (map code f)) P (omega (arith, long-P, errors-all f, none-missing (λ i. X .same (eval X f (x i)) (y i)) (down n) h))
-
-    passes-through : (f : List E) → every (passes C P (map code f)) P ≡ true → Through X x y f (down n)
-    unfolding long-P
+    passes-through : (f : List E) → every (passes C (map code f)) P ≡ true → Through X x y f (down n)
     passes-through f e =
-        all-from-none (λ i. X .same (eval X f (x i)) (y i)) (down n) (omega (arith, long-P, errors-all f, kept-from-every (passes C P (map code f)) P e))
+        all-from-none (λ i. X .same (eval X f (x i)) (y i)) (down n) (omega (arith, long-P, errors-all f, kept-from-every (passes C (map code f)) P e))
 
     -- what `read_off` collects where nothing is passed over: the one polynomial through all points
     pub through-one : 1 ≤ n → distinct (map (λ p. p .0) P) ≡ true → (e : List E) → e ≡ X .one ∷ []
@@ -262,13 +254,13 @@ module _ {E : Type 0} {C : Codes} {code : E → ℕ} (L : Field-laws E C code) w
         let got : collected X x y e (n - 1) (down n) .top ≡ f =
         took-right X x y f e (n - 1) (down n) (collected X x y e (n - 1) (down n)) (took X x y f e (n - 1) (down n) d (all-with (λ i h _ _. h) (down n) on on)) ls
         (omega (arith, length-down n, all-missing (λ i. X .same (eval X e (x i)) (X .zero)) (down n) (λ i z. not-root (x i) z))) in
-        kept-one (λ g. every (passes C P g) P) (polynomials (C .size) (length P)) (map code f) (polynomials-apart (C .size) (length P))
+        kept-one (λ g. every (passes C g) P) (polynomials (C .size) (length P)) (map code f) (polynomials-apart (C .size) (length P))
         (polynomials-in (C .size) (length P) (map code f) (length-map f code ∙ lf ∙ sym long-P, codes-below f)) (through-passes f on)
         (λ g k h.
         let r = polynomials-are (C .size) (length P) g k in
         let b = lifted g (r .1) in
         let lb : length (b .0) ≡ length (down n) = sym (length-map (b .0) code) ∙ ap length (b .1) ∙ r .0 ∙ long-P ∙ sym (length-down n) in
-        sym (b .1) ∙ ap (map code) (interpolation X x (down n) y (b .0) d lb (passes-through (b .0) (subst (λ g. every (passes C P g) P ≡ true) (sym (b .1)) h))))
+        sym (b .1) ∙ ap (map code) (interpolation X x (down n) y (b .0) d lb (passes-through (b .0) (subst (λ g. every (passes C g) P ≡ true) (sym (b .1)) h))))
         ∙ ap (λ f. map code f ∷ []) (sym got)
       where
         -- the polynomial 1 has no root

@@ -10,8 +10,8 @@ use lib.Dec.{leb}
 use lib.ListN.{length}
 use Rattle.std.specs.declared.option.Option.{Option}
 use Rattle.std.specs.declared.option.Option.the-variants.{Some, None}
+use Rattle.std.proofs.shelf.Lists.{length-map}
 use Rattle.std.proofs.shelf.Tests.{le-leb, lt-leb, leb-true, and-from, and-left, and-right, and-parts}
-use Rattle.fields.specs.Laws.{Codes}
 use Rattle.scheme.specs.Fitting.{distinct, points-refusal}
 use Rattle.scheme.specs.Held.{point-codes}
 use Rattle.scheme.specs.declared.types.Point.{Point}
@@ -22,7 +22,7 @@ pub abscissa-codes : {E : Type 0} (code : E → ℕ) (points : List (Point E)) �
 abscissa-codes code [] = refl
 abscissa-codes code (p ∷ points) = ap (λ l. code (p .x) ∷ l) (abscissa-codes code points)
 
-module _ (C : Codes) (points : List (ℕ × ℕ)) (least : ℕ) where
+module _ (points : List (ℕ × ℕ)) (least : ℕ) where
   abbrev enough : Bool
   enough = leb least (length points) && leb (length points) 32
 
@@ -30,16 +30,16 @@ module _ (C : Codes) (points : List (ℕ × ℕ)) (least : ℕ) where
   apart = distinct (map (λ p. p .0) points)
 
   -- the answer by the two tests
-  told : (a b : Bool) → enough ≡ a → apart ≡ b → points-refusal C points least ≡ cond a (cond b None (Some Repeated)) (Some Count)
+  told : (a b : Bool) → enough ≡ a → apart ≡ b → points-refusal points least ≡ cond a (cond b None (Some Repeated)) (Some Count)
   told a b ea eb = ap₂ (λ (a b : Bool). cond a (cond b None (Some Repeated)) (Some Count)) ea eb
 
-  pub too-few : length points < least → points-refusal C points least ≡ Some Count
+  pub too-few : length points < least → points-refusal points least ≡ Some Count
   too-few h = told false apart (and-left _ _ (lt-leb least (length points) h)) refl
 
-  pub too-many : 32 < length points → points-refusal C points least ≡ Some Count
+  pub too-many : 32 < length points → points-refusal points least ≡ Some Count
   too-many h = told false apart (and-right (leb least (length points)) _ (lt-leb (length points) 32 h)) refl
 
-  pub within : least ≤ length points → length points ≤ 32 → (b : Bool) → apart ≡ b → points-refusal C points least ≡ cond b None (Some Repeated)
+  pub within : least ≤ length points → length points ≤ 32 → (b : Bool) → apart ≡ b → points-refusal points least ≡ cond b None (Some Repeated)
   within l h b e = told true b (and-from _ _ (le-leb _ _ l) (le-leb _ _ h)) e
 
   pub record Settled : Type 0 where
@@ -47,7 +47,7 @@ module _ (C : Codes) (points : List (ℕ × ℕ)) (least : ℕ) where
     pub at-most : length points ≤ 32
     pub distinct-abscissae : apart ≡ true
 
-  pub settled : points-refusal C points least ≡ None → Settled
+  pub settled : points-refusal points least ≡ None → Settled
   settled e = by enough apart refl refl e
     where
       absent : (f : PointsFault) → _≡_ {A = Option PointsFault} (Some f) None → ⊥
@@ -57,3 +57,11 @@ module _ (C : Codes) (points : List (ℕ × ℕ)) (least : ℕ) where
       by true true ea eb q = let h = and-parts _ _ ea in record { at-least = leb-true _ _ (h .0); at-most = leb-true _ _ (h .1); distinct-abscissae = eb }
       by true false ea eb q = absurd (absent Repeated q)
       by false b ea eb q = absurd (absent Count q)
+
+-- how many points there are, once they are not refused
+pub bounds : {E : Type 0} (code : E → ℕ) (points : List (Point E)) (least : ℕ) → None ≡ points-refusal (point-codes code points) least
+    → (least ≤ length points) × (length points ≤ 32)
+bounds code points least asked =
+    let same : length (point-codes code points) ≡ length points = length-map points _ in
+    let s = settled (point-codes code points) least (sym asked) in
+    (omega (arith, s .at-least), omega (arith, s .at-most))

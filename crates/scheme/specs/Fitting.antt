@@ -36,35 +36,48 @@ abbrev pub first : {A : Type 0} → List A → Option A
 first [] = None
 first (a ∷ list) = Some a
 
-module _ (C : Codes) (points : List (ℕ × ℕ)) where
+-- the questions: are the points at least `least` and at most 32, and their abscissae distinct?
+abbrev pub points-refusal : List (ℕ × ℕ) → ℕ → Option PointsFault
+points-refusal points least =
+    cond (leb least (length points) && leb (length points) 32) (cond (distinct (map (λ p. p .0) points)) None (Some Repeated)) (Some Count)
+
+abbrev pub unless-refused : {A : Type 0} → Option PointsFault → A → Result A PointsFault
+unless-refused None a = Ok a
+unless-refused (Some e) a = Err e
+
+module _ (C : Codes) where
   abbrev pub passes : List ℕ → ℕ × ℕ → Bool
   passes f p = eqb (value-at C f (p .0)) (p .1)
 
+  -- through how many of the points f passes
+  abbrev pub agreements : List (ℕ × ℕ) → List ℕ → ℕ
+  agreements points f = length (kept-by (passes f) points)
+
   -- f passes through all but at most t of the points
-  abbrev pub fits : ℕ → List ℕ → Bool
-  fits t f = leb (length points - t) (length (kept-by (passes f) points))
+  abbrev pub fits : List (ℕ × ℕ) → ℕ → List ℕ → Bool
+  fits points t f = leb (length points - t) (agreements points f)
 
   -- the polynomials of t + 1 coefficients that fit; by `one_decodes` there is at most one where the points are at least 3·t + 1
-  abbrev pub fitting : ℕ → List (List ℕ)
-  fitting t = kept-by (fits t) (polynomials (C .size) (suc t))
+  abbrev pub fitting : List (ℕ × ℕ) → ℕ → List (List ℕ)
+  fitting points t = kept-by (fits points t) (polynomials (C .size) (suc t))
 
   -- the polynomials with a coefficient for each point that pass through all of them; by `one_interpolates` there is exactly one
-  abbrev pub through : List (List ℕ)
-  through = kept-by (λ f. every (passes f) points) (polynomials (C .size) (length points))
-
-  -- the questions: are the points at least `least` and at most 32, and their abscissae distinct?
-  abbrev pub points-refusal : ℕ → Option PointsFault
-  points-refusal least =
-      cond (leb least (length points) && leb (length points) 32) (cond (distinct (map (λ p. p .0) points)) None (Some Repeated)) (Some Count)
-
-  abbrev pub unless-refused : {A : Type 0} → Option PointsFault → A → Result A PointsFault
-  unless-refused None a = Ok a
-  unless-refused (Some e) a = Err e
+  abbrev pub through : List (ℕ × ℕ) → List (List ℕ)
+  through points = kept-by (λ f. every (passes f) points) (polynomials (C .size) (length points))
 
   -- what `decode` answers: the polynomial that fits, or nothing where none does
-  abbrev pub decoded : ℕ → Result (Option (List ℕ)) PointsFault
-  decoded t = unless-refused (points-refusal (3 * t + 1)) (first (fitting t))
+  abbrev pub decoded : List (ℕ × ℕ) → ℕ → Result (Option (List ℕ)) PointsFault
+  decoded points t = unless-refused (points-refusal points (3 * t + 1)) (first (fitting points t))
 
   -- what `interpolate` answers
-  abbrev pub interpolated : Result (Option (List ℕ)) PointsFault
-  interpolated = unless-refused (points-refusal 1) (first through)
+  abbrev pub interpolated : List (ℕ × ℕ) → Result (Option (List ℕ)) PointsFault
+  interpolated points = unless-refused (points-refusal points 1) (first (through points))
+
+  abbrev pub value-of : ℕ → Result (Option (List ℕ)) PointsFault → Result (Option ℕ) PointsFault
+  value-of x (Ok None) = Ok None
+  value-of x (Ok (Some f)) = Ok (Some (value-at C f x))
+  value-of x (Err e) = Err e
+
+  -- what `interpolate_at` answers
+  abbrev pub interpolated-at : List (ℕ × ℕ) → ℕ → Result (Option ℕ) PointsFault
+  interpolated-at points x = value-of x (interpolated points)

@@ -45,6 +45,10 @@ module _ {E : Type 0} where
   interpolate-told code (Ok p) = Ok (Some (polynomial-told code p))
   interpolate-told code (Err e) = Err e
 
+  abbrev pub value-told : (E → ℕ) → Result E PointsFault → Result (Option ℕ) PointsFault
+  value-told code (Ok a) = Ok (Some (code a))
+  value-told code (Err e) = Err e
+
   abbrev pub ratio : (X : Field E) → Ratio E → algebra.Ratio X
   ratio X r = record { top = coefficients (r .top); bottom = coefficients (r .bottom) }
 

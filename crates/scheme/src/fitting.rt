@@ -1,9 +1,8 @@
 // The polynomial that passes through points, or through all but a few of them.
 ghost use Prim.Native.Nat.{_*_, _+_, _-_, _≤_};
-ghost use Rattle.scheme.specs.Fitting.{decoded, distinct, interpolated, passes, points-refusal};
-ghost use Rattle.scheme.specs.Held.{decode-told, interpolate-told, point-codes, polynomial-told, refusal-of};
+ghost use Rattle.scheme.specs.Fitting.{agreements as agreementsOf, decoded, distinct, interpolated, interpolated-at, points-refusal};
+ghost use Rattle.scheme.specs.Held.{decode-told, interpolate-told, point-codes, polynomial-told, refusal-of, value-told};
 ghost use Rattle.scheme.specs.Questions.{every};
-ghost use Rattle.std.specs.shelf.Lists.{kept-by};
 ghost use lib.Dec.{eqb, leb};
 ghost use lib.ListN.{length};
 ghost use mathlib.Core.Bool.{_&&_, not};
@@ -47,7 +46,7 @@ fn are_distinct<F: Field>(points: &[Point<F::Elem>]) -> bool
 
 // Puts the questions about points: from `least` to 32 of them, with distinct abscissae.
 fn ask_points<F: Field>(points: &[Point<F::Elem>], least: usize) -> Result<(), PointsFault>
-    ensures { λ r. ⌜ refusal-of r ≡ points-refusal codes (point-codes code (now (points .entry))) least ⌝ }
+    ensures { λ r. ⌜ refusal-of r ≡ points-refusal (point-codes code (now (points .entry))) least ⌝ }
 {
     if points.len() < least || points.len() > 32 {
         return Err(PointsFault::Count);
@@ -60,7 +59,7 @@ fn ask_points<F: Field>(points: &[Point<F::Elem>], least: usize) -> Result<(), P
 
 // Through how many of the points f passes.
 fn agreements<F: Field>(f: &Polynomial<F::Elem>, points: &[Point<F::Elem>]) -> usize
-    ensures { λ r. ⌜ r ≡ length (kept-by (passes codes (point-codes code (now (points .entry))) (polynomial-told code (now (f .entry)))) (point-codes code (now (points .entry)))) ⌝ }
+    ensures { λ r. ⌜ r ≡ agreementsOf codes (point-codes code (now (points .entry))) (polynomial-told code (now (f .entry))) ⌝ }
 {
     let mut count = 0;
     for i in 0..points.len() {
@@ -75,7 +74,7 @@ fn agreements<F: Field>(f: &Polynomial<F::Elem>, points: &[Point<F::Elem>]) -> u
 // Whether f has t + 1 coefficients and passes through all but at most t of the points.
 fn fits<F: Field>(f: &Polynomial<F::Elem>, points: &[Point<F::Elem>], t: usize) -> bool
     requires { ⌜ 3 * t + 1 ≤ length (now points) ⌝ ∗ ⌜ t ≤ 10 ⌝ }
-    ensures { λ r. ⌜ r ≡ (eqb (now (f .entry) .len) (t + 1) && leb (length (now (points .entry)) - t) (length (kept-by (passes codes (point-codes code (now (points .entry))) (polynomial-told code (now (f .entry)))) (point-codes code (now (points .entry)))))) ⌝ }
+    ensures { λ r. ⌜ r ≡ (eqb (now (f .entry) .len) (t + 1) && leb (length (now (points .entry)) - t) (agreementsOf codes (point-codes code (now (points .entry))) (polynomial-told code (now (f .entry))))) ⌝ }
 {
     f.len == t + 1 && agreements::<F>(f, points) >= points.len() - t
 }
@@ -89,6 +88,17 @@ pub fn interpolate<F: Field>(points: &[Point<F::Elem>]) -> Result<Polynomial<F::
     let one = unit::<F>();
     let Ratio { top, bottom: _ } = read_off::<F>(&one, points, n, n - 1);
     Ok(top)
+}
+
+// The value at x of the polynomial that `interpolate` answers.
+pub fn interpolate_at<F: Field>(
+    points: &[Point<F::Elem>],
+    x: F::Elem,
+) -> Result<F::Elem, PointsFault>
+    ensures { λ r. ⌜ value-told code r ≡ interpolated-at codes (point-codes code (now (points .entry))) (code x) ⌝ }
+{
+    let f = interpolate::<F>(points)?;
+    Ok(value_at::<F>(&f, x))
 }
 
 // The polynomial of t + 1 coefficients that passes through all but at most t of the points, or nothing where there is none.

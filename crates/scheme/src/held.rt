@@ -1,4 +1,5 @@
-// Polynomials and pairs of them, held in place: no call allocates. Twice the 32 seats of a table leave room for every product.
+// Polynomials and pairs of them, held in place: no call allocates. Twice the 32 points of the largest call leave room for every
+// product.
 ghost use Prim.Native.Nat.{_≤_};
 ghost use lib.ListN.{length};
 ghost use mathlib.Core.Path.{_≡_};

@@ -13,6 +13,7 @@ pub use dealing::deal;
 pub use figures_call::figures;
 pub use fitting::decode;
 pub use fitting::interpolate;
+pub use fitting::interpolate_at;
 pub use held::Polynomial;
 pub use types::DealFault;
 pub use types::Figures;

@@ -28,17 +28,17 @@ loop-i-again g c =
     let same : length P ≡ length points = length-map points _ in
     let h : i < length P = omega arith in
     let here : getD P i (0, 0) ≡ (code (p .x), code (p .y)) = told-at (λ p. (code (p .x), code (p .y))) (0, 0) points i p (c .index-points-i .is) (c .loop-i-test .taken) in
-    let step = length-kept-by-more (passes C P f) P i (0, 0) h in
+    let step = length-kept-by-more (passes C f) P i (0, 0) h in
     let value : c .to-code .result ≡ value-at C f (code (p .x)) = c .to-code .ensures ∙ c .value-at .ensures in
     elim (c .if-to-code .came) [
       | then-to-code w ↦
-          let yes : passes C P f (getD P i (0, 0)) ≡ true = ap (passes C P f) here ∙ eq-eqb _ _ (sym value ∙ w .if-to-code .taken ∙ c .to-code-in-loop-i .ensures) in
-          let one : _≡_ {A = ℕ} (cond (passes C P f (getD P i (0, 0))) 1 0) 1 = ap (λ (b : Bool). cond {A = ℕ} b 1 0) yes in
+          let yes : passes C f (getD P i (0, 0)) ≡ true = ap (passes C f) here ∙ eq-eqb _ _ (sym value ∙ w .if-to-code .taken ∙ c .to-code-in-loop-i .ensures) in
+          let one : _≡_ {A = ℕ} (cond (passes C f (getD P i (0, 0))) 1 0) 1 = ap (λ (b : Bool). cond {A = ℕ} b 1 0) yes in
           (omega (arith, w .count-is, c .loop-i .inv .0), omega (arith, w .count-is, c .loop-i .inv .1, step, one))
       | else-to-code w ↦
-          let no : passes C P f (getD P i (0, 0)) ≡ false =
-          ap (passes C P f) here ∙ ne-eqb _ _ (λ e. w .if-to-code .left (value ∙ e ∙ sym (c .to-code-in-loop-i .ensures))) in
-          let none : _≡_ {A = ℕ} (cond (passes C P f (getD P i (0, 0))) 1 0) 0 = ap (λ (b : Bool). cond {A = ℕ} b 1 0) no in
+          let no : passes C f (getD P i (0, 0)) ≡ false =
+          ap (passes C f) here ∙ ne-eqb _ _ (λ e. w .if-to-code .left (value ∙ e ∙ sym (c .to-code-in-loop-i .ensures))) in
+          let none : _≡_ {A = ℕ} (cond (passes C f (getD P i (0, 0))) 1 0) 0 = ap (λ (b : Bool). cond {A = ℕ} b 1 0) no in
           (omega (arith, w .count-is, c .loop-i .inv .0), omega (arith, w .count-is, c .loop-i .inv .1, step, none))
     ]
 
@@ -48,4 +48,4 @@ returns g c =
     let points = c .args .points .now in
     let P = point-codes code points in
     let same : length P ≡ length points = length-map points _ in
-    c .loop-i .inv .1 ∙ ap (λ (l : List (ℕ × ℕ)). length (kept-by (passes (g .F·Field .codes) P (polynomial-told code (c .args .f .now))) l)) (take-all (c .loop-i .i) P (omega arith))
+    c .loop-i .inv .1 ∙ ap (λ (l : List (ℕ × ℕ)). length (kept-by (passes (g .F·Field .codes) (polynomial-told code (c .args .f .now))) l)) (take-all (c .loop-i .i) P (omega arith))

@@ -11,4 +11,4 @@ abbrev pub Inv-loop-i : given.InvT-loop-i
 Inv-loop-i g l =
     (l .count ≤ l .i)
     × (l .count
-    ≡ length (kept-by (passes (g .F·Field .codes) (point-codes (g .F·Field .code) (l .points)) (polynomial-told (g .F·Field .code) (l .f))) (take (l .i) (point-codes (g .F·Field .code) (l .points)))))
+    ≡ length (kept-by (passes (g .F·Field .codes) (polynomial-told (g .F·Field .code) (l .f))) (take (l .i) (point-codes (g .F·Field .code) (l .points)))))

@@ -13,7 +13,7 @@ pub returns-then-points-least : need.returns-then-points-least
 returns-then-points-least g c =
     let P = point-codes (g .F·Field .code) (c .args .points .now) in
     let long : length P ≡ length (c .args .points .now) = length-map (c .args .points .now) _ in
-    sym (⊎-elim (λ h. too-few (g .F·Field .codes) P (c .args .least) (omega arith)) (λ h. too-many (g .F·Field .codes) P (c .args .least) (omega (arith, h .1)))
+    sym (⊎-elim (λ h. too-few P (c .args .least) (omega arith)) (λ h. too-many P (c .args .least) (omega (arith, h .1)))
     (c .then-points-least .either))
 
 pub returns-then-not-are-distinct : need.returns-then-not-are-distinct
@@ -22,7 +22,7 @@ returns-then-not-are-distinct g c =
     let points = c .args .points .now in
     let P = point-codes code points in
     let long : length P ≡ length points = length-map points _ in
-    sym (within (g .F·Field .codes) P (c .args .least) (omega arith) (omega arith) false (ap distinct (abscissa-codes code points) ∙ sym (c .if-not-are-distinct .ensures tt)))
+    sym (within P (c .args .least) (omega arith) (omega arith) false (ap distinct (abscissa-codes code points) ∙ sym (c .if-not-are-distinct .ensures tt)))
 
 pub returns : need.returns
 returns g c =
@@ -30,4 +30,4 @@ returns g c =
     let points = c .args .points .now in
     let P = point-codes code points in
     let long : length P ≡ length points = length-map points _ in
-    sym (within (g .F·Field .codes) P (c .args .least) (omega arith) (omega arith) true (ap distinct (abscissa-codes code points) ∙ sym (c .if-not-are-distinct .ensures tt)))
+    sym (within P (c .args .least) (omega arith) (omega arith) true (ap distinct (abscissa-codes code points) ∙ sym (c .if-not-are-distinct .ensures tt)))

@@ -1,5 +1,5 @@
 use mathlib.Core.Path.{_≡_, sym, ap, _∙_}
-use mathlib.Core.Bool.{true, false, _&&_, true≢false}
+use mathlib.Core.Bool.{Bool, true, false, cond, _&&_, true≢false}
 use mathlib.Core.List.{List}
 use Prim.Native.Nat.{ℕ, _+_, _-_, _*_, _≤_}
 use native.Mathlib.Omega.{arith}
@@ -7,79 +7,72 @@ use lib.Dec.{eqb, leb}
 use lib.ListN.{length}
 use Rattle.std.specs.declared.option.Option.{Option}
 use Rattle.std.specs.declared.option.Option.the-variants.{Some, None}
-use Rattle.std.specs.shelf.Lists.{kept-by}
+use Rattle.std.specs.declared.result.Result.the-variants.{Ok, Err}
 use Rattle.std.proofs.shelf.Lists.{length-map}
 use Rattle.std.proofs.shelf.Tests.{and-from, and-parts, eq-eqb, eqb-true}
-use Rattle.algebra.specs.Decoder.{Fit, errors, place, down}
+use Rattle.algebra.specs.Decoder.{Fit, answer, errors, place, down}
 use Rattle.algebra.proofs.Candidate.{fit-is-answer}
 use Rattle.fields.specs.Elements.{elements}
-use Rattle.scheme.specs.Fitting.{first, fitting, passes, unless-refused}
+use Rattle.fields.specs.Laws.{Codes, Field-laws}
+use Rattle.scheme.specs.Fitting.{agreements, decoded, first, fits, fitting, points-refusal, unless-refused}
 use Rattle.scheme.specs.Held.{coefficients, abscissae, ordinates, point-codes, polynomial-told}
+use Rattle.scheme.specs.declared.held.Polynomial.{Polynomial}
+use Rattle.scheme.specs.declared.types.Point.{Point}
 use Rattle.scheme.specs.declared.types.PointsFault.{PointsFault}
 use Rattle.scheme.proofs.Fitted.{apart-x, few-fits, fits-few, fitting-one, fitting-none}
 use Rattle.scheme.proofs.Memory.{roomy}
-use Rattle.scheme.proofs.PointQuestions.{settled}
+use Rattle.scheme.proofs.PointQuestions.{bounds, settled}
 use Rattle.scheme.proofs.Points.{long}
 use Rattle.scheme.proofs.fitting.decode.Needs as need
 
+module _ {E : Type 0} {C : Codes} {code : E → ℕ} (L : Field-laws E C code) (points : List (Point E)) (t : ℕ) where
+  abbrev P : List (ℕ × ℕ)
+  P = point-codes code points
+
+  -- the last question that is put to the candidate
+  abbrev question : Polynomial E → Bool
+  question f = eqb (f .len) (t + 1) && leb (length points - t) (agreements C P (polynomial-told code f))
+
+  module _ (asked : None ≡ points-refusal P (3 * t + 1)) (f : Polynomial E) (only : coefficients f ≡ answer (elements L) (abscissae points) (ordinates points) t) where
+    abbrev misses : List E → ℕ
+    misses e = errors (elements L) (place (elements L) (abscissae points)) (place (elements L) (ordinates points)) e (down (length points))
+
+    counted : fits C P t (polynomial-told code f) ≡ leb (length points - t) (agreements C P (polynomial-told code f))
+    counted = ap (λ m. leb (m - t) (agreements C P (polynomial-told code f))) (length-map points _)
+
+    -- the candidate is the one polynomial that fits, or nothing does
+    decides : (b : Bool) → question f ≡ b → first (fitting C P t) ≡ cond b (Some (polynomial-told code f)) None
+    decides true e =
+        let apart = settled P (3 * t + 1) (sym asked) .distinct-abscissae in
+        let both = and-parts _ _ e in
+        let few = fits-few L points t apart (coefficients f) (counted ∙ both .1) in
+        ap first (fitting-one L points t apart (bounds code points (3 * t + 1) asked .0) (coefficients f) (long f ∙ eqb-true _ _ (both .0), few))
+    decides false e =
+        let apart = settled P (3 * t + 1) (sym asked) .distinct-abscissae in
+        ap first (fitting-none L points t apart (λ h fit.
+        let same : coefficients f ≡ h =
+        only ∙ fit-is-answer (elements L) (abscissae points) (ordinates points) t (length points) (apart-x L points apart (length points) (omega arith)) (bounds code points (3 * t + 1) asked .0) h fit in
+        let few : misses (coefficients f) ≤ t = omega (arith, ap misses same, fit .1) in
+        let yes = and-from (eqb (f .len) (t + 1)) _ (eq-eqb _ _ (sym (long f) ∙ ap length same ∙ fit .0)) (sym counted ∙ few-fits L points t apart (coefficients f) few) in
+        true≢false (sym yes ∙ e)))
+
+    answers : (b : Bool) → question f ≡ b → Ok (cond b (Some (polynomial-told code f)) None) ≡ decoded C P t
+    answers b e = ap (unless-refused None) (sym (decides b e)) ∙ ap (λ (r : Option PointsFault). unless-refused r (first (fitting C P t))) asked
+
 pub candidate-f-requires : need.candidate-f-requires
 candidate-f-requires g c κs =
-    let points = c .args .points .now in
-    let P = point-codes (g .F·Field .code) points in
-    let s = settled (g .F·Field .codes) P (3 * c .args .t + 1) (sym (c .in-Continue-ask-points .ensures tt)) in
-    let same : length P ≡ length points = length-map points _ in
-    (roomy (g .F·Elem) (g .F·Field .codes) (g .F·Field·met .laws .on-codes) (g .F·Field·met .room) .polynomial, (omega (arith, s .at-least), omega arith))
+    (roomy (g .F·Elem) (g .F·Field .codes) (g .F·Field·met .laws .on-codes) (g .F·Field·met .room) .polynomial, (bounds (g .F·Field .code) (c .args .points .now) (3 * c .args .t + 1) (c .in-Continue-ask-points .ensures tt) .0, omega arith))
 
 pub fits-requires : need.fits-requires
 fits-requires g c κs =
-    let points = c .args .points .now in
-    let P = point-codes (g .F·Field .code) points in
-    let s = settled (g .F·Field .codes) P (3 * c .args .t + 1) (sym (c .in-Continue-ask-points .ensures tt)) in
-    let same : length P ≡ length points = length-map points _ in
-    (roomy (g .F·Elem) (g .F·Field .codes) (g .F·Field·met .laws .on-codes) (g .F·Field·met .room) .polynomial, (omega (arith, s .at-least), omega arith))
+    (roomy (g .F·Elem) (g .F·Field .codes) (g .F·Field·met .laws .on-codes) (g .F·Field·met .room) .polynomial, (bounds (g .F·Field .code) (c .args .points .now) (3 * c .args .t + 1) (c .in-Continue-ask-points .ensures tt) .0, omega arith))
 
--- the candidate does not fit, and nothing else can
 pub returns-then-not-fits : need.returns-then-not-fits
 returns-then-not-fits g c =
     let L = g .F·Field·met .laws in
-    let X = elements L in
-    let C = g .F·Field .codes in
-    let points = c .args .points .now in
-    let n = length points in
-    let t = c .args .t in
-    let P = point-codes (g .F·Field .code) points in
-    let s = settled C P (3 * t + 1) (sym (c .in-Continue-ask-points .ensures tt)) in
-    let apart = s .distinct-abscissae in
-    let same : length P ≡ n = length-map points _ in
-    let enough : 3 * t + 1 ≤ n = omega (arith, s .at-least) in
-    let f = c .candidate-f .result in
-    let told = polynomial-told (g .F·Field .code) f in
-    let none = fitting-none L points t apart (λ e fit.
-    let only : coefficients f ≡ e =
-    c .candidate-f .ensures L ∙ fit-is-answer X (abscissae points) (ordinates points) t n (apart-x L points apart n (omega arith)) enough e fit in
-    let long-enough : f .len ≡ t + 1 = sym (long f) ∙ ap length only ∙ fit .0 in
-    let few : errors X (place X (abscissae points)) (place X (ordinates points)) (coefficients f) (down n) ≤ t =
-    omega (arith, ap (λ z. errors X (place X (abscissae points)) (place X (ordinates points)) z (down n)) only, fit .1) in
-    let passed : leb (n - t) (length (kept-by (passes C P told) P)) ≡ true = ap (λ m. leb (m - t) (length (kept-by (passes C P told) P))) (sym same) ∙ few-fits L points t apart (coefficients f) few in
-    true≢false (sym (and-from (eqb (f .len) (t + 1)) (leb (n - t) (length (kept-by (passes C P told) P))) (eq-eqb _ _ long-enough) passed) ∙ sym (c .if-not-fits .ensures tt))) in
-    ap (unless-refused C P None) (sym (ap first none))
-    ∙ ap (λ (r : Option PointsFault). unless-refused C P r (first (fitting C P t))) (c .in-Continue-ask-points .ensures tt)
+    answers L (c .args .points .now) (c .args .t) (c .in-Continue-ask-points .ensures tt) (c .candidate-f .result) (c .candidate-f .ensures L) false (sym (c .if-not-fits .ensures tt))
 
 pub returns : need.returns
 returns g c =
     let L = g .F·Field·met .laws in
-    let C = g .F·Field .codes in
-    let points = c .args .points .now in
-    let n = length points in
-    let t = c .args .t in
-    let P = point-codes (g .F·Field .code) points in
-    let s = settled C P (3 * t + 1) (sym (c .in-Continue-ask-points .ensures tt)) in
-    let apart = s .distinct-abscissae in
-    let same : length P ≡ n = length-map points _ in
-    let f = c .candidate-f .result in
-    let told = polynomial-told (g .F·Field .code) f in
-    let both = and-parts (eqb (f .len) (t + 1)) (leb (n - t) (length (kept-by (passes C P told) P))) (sym (c .if-not-fits .ensures tt)) in
-    let few = fits-few L points t apart (coefficients f) (ap (λ m. leb (m - t) (length (kept-by (passes C P told) P))) same ∙ both .1) in
-    let one = fitting-one L points t apart (omega (arith, s .at-least)) (coefficients f) (long f ∙ eqb-true _ _ (both .0), few) in
-    ap (unless-refused C P None) (sym (ap first one))
-    ∙ ap (λ (r : Option PointsFault). unless-refused C P r (first (fitting C P t))) (c .in-Continue-ask-points .ensures tt)
+    answers L (c .args .points .now) (c .args .t) (c .in-Continue-ask-points .ensures tt) (c .candidate-f .result) (c .candidate-f .ensures L) true (sym (c .if-not-fits .ensures tt))
