@@ -9,7 +9,7 @@ use native.Mathlib.Nat.{le-of-suc-le-suc, not-suc-le-zero, mod-lt, div-add-mod',
 use native.Mathlib.Omega.{arith}
 use lib.Pow.{pow-pos}
 use lib.Bits.{bitXor, xor-lt, xor-assoc, xor-comm, xor-self, xor-zero-r, xor-shr, xor-mod, xor-shifted, xor-block}
-use lib.Dec.{T, eqb, ltb, eqb→eq, ltb→lt, lit≤}
+use lib.Dec.{T, eqb, lit≤}
 use Rattle.std.proofs.shelf.Tests.{cond-false, ne-eqb}
 use Rattle.fields.specs.Byte.{carryless, remainder, product, byte}
 use Rattle.fields.specs.Inverse.{inverse-under}

@@ -1,6 +1,6 @@
 -- The doubled field is a field, for every field that can be doubled.
 -- Assumes nothing.
-use mathlib.Core.Path.{_≡_, refl, sym, _∙_, ap, ap₂}
+use mathlib.Core.Path.{_≡_, refl, _∙_, ap, ap₂}
 use Prim.Native.Nat.{ℕ, suc, _+_, _*_, _/_, _%_, _<_, _≤_}
 use native.Mathlib.Nat.{mod-lt, mod-eq-of-lt, div-eq-of-lt, add-mul-mod-self-left, add-mul-div-left, mod-add-div, div-lt-iff-lt-mul, zero-add, mul-zero, mul-le-mul-left, mul-suc}
 use native.Mathlib.Omega.{arith}

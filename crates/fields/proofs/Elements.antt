@@ -10,7 +10,7 @@ use Rattle.algebra.specs.Field.{Field}
 use Rattle.algebra.proofs.Rules.{zero-mul}
 use Rattle.fields.specs.Elements.{elements, same, code-zero, code-one, code-add, code-neg, code-mul, code-inv}
 use Rattle.fields.specs.Laws.{Codes, Laws, Field-laws}
-use Rattle.fields.specs.Inverse.{inverse-under, Inverse-of}
+use Rattle.fields.specs.Inverse.{inverse-under}
 use Rattle.fields.proofs.InverseLaws.{found, bounded, none, inverse-is}
 
 -- ---- down: what the calls of a field answer, as elements

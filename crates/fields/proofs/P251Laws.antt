@@ -1,6 +1,6 @@
 -- The whole numbers modulo 251 are a field that can be doubled.
 -- Assumes nothing.
-use mathlib.Core.Path.{_≡_, refl, sym, _∙_, ap}
+use mathlib.Core.Path.{_≡_, sym, _∙_, ap}
 use mathlib.Core.Bool.{cond}
 use Prim.Native.Nat.{ℕ, _+_, _*_, _-_, _/_, _%_, _<_}
 use native.Mathlib.Nat.{mod-lt, mod-eq-of-lt, mod-add-mod, add-mod-mod, div-add-mod, add-mul, mul-add, mul-assoc, mul-comm, add-comm, mul-one, zero-mul, add-mul-mod-self-left}

@@ -2,7 +2,7 @@
 -- Assumes nothing.
 use mathlib.Core.Path.{_≡_, refl, sym, ap, ap₂, _∙_, subst}
 use mathlib.Core.List.{List, [], _∷_, _++_, map}
-use mathlib.Core.Bool.{Bool, true, false, cond, _&&_, not, true≢false}
+use mathlib.Core.Bool.{Bool, true, false, cond, not}
 use Prim.Native.Nat.{ℕ, zero, suc, _≤_, _<_, _+_, _-_, _*_}
 use native.Mathlib.Numerals.{add-one}
 use native.Mathlib.Omega.{arith}
@@ -11,7 +11,7 @@ use lib.ListN.{length, getD, take}
 use Rattle.std.specs.shelf.Lists.{All, kept-by}
 use Rattle.std.proofs.shelf.Lists.{getD-map, length-map, take-all, take-more}
 use Rattle.std.proofs.shelf.Elements.{all-getD}
-use Rattle.std.proofs.shelf.Tests.{eq-eqb, ne-eqb, eqb-true, eqb-false, leb-true, le-leb, and-parts, and-from, not-true}
+use Rattle.std.proofs.shelf.Tests.{eq-eqb, ne-eqb, eqb-false, leb-true, le-leb, and-parts, and-from, not-true}
 use Rattle.algebra.specs.Field.{Field}
 use Rattle.algebra.specs.Polynomial.{Apart, eval, Through, interpolated}
 use Rattle.algebra.specs.Count.{In}
@@ -28,7 +28,7 @@ use Rattle.scheme.specs.Fitting.{polynomials, distinct, passes, fits, fitting,
 use Rattle.scheme.specs.Held.{abscissae, ordinates, point-codes}
 use Rattle.scheme.specs.declared.types.Point.{Point}
 use Rattle.scheme.proofs.Asking.{all-from-every}
-use Rattle.scheme.proofs.Enumerated.{kept-none, kept-one, Codes-of, polynomials-in, polynomials-are, polynomials-apart}
+use Rattle.scheme.proofs.Enumerated.{kept-none, kept-one, polynomials-in, polynomials-are, polynomials-apart}
 
 -- a test that all pass keeps all
 kept-from-every : {A : Type 0} (test : A → Bool) (l : List A) → every test l ≡ true → length (kept-by test l) ≡ length l

@@ -1,6 +1,6 @@
 // Interpolation and decoding with errors, over any field and without a heap.
 ghost use Prim.Native.Nat.{_*_, _+_, _<_, _≤_};
-ghost use Rattle.algebra.specs.Decoder.{add-multiple as addedMultiple, answer, chosen, collected, down, extended, offered, place, raise as raised, run as runOf, start as startOf, step as stepOf};
+ghost use Rattle.algebra.specs.Decoder.{add-multiple as addedMultiple, answer, collected, down, extended, offered, place, raise as raised, run as runOf, start as startOf, step as stepOf};
 ghost use Rattle.fields.specs.Elements.{Over};
 ghost use Rattle.scheme.specs.Held.{Shorter, abscissae, coefficients, ordinates, polynomial-told, ratio, state};
 ghost use Rattle.scheme.specs.Polynomial.{value-at};

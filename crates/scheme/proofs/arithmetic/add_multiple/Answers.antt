@@ -1,8 +1,7 @@
-use mathlib.Core.Path.{_≡_, refl, sym, ap, ap₂, _∙_}
-use Prim.Native.Nat.{_+_, _-_, _≤_, max}
+use mathlib.Core.Path.{_≡_}
+use Prim.Native.Nat.{max}
 use native.Mathlib.Nat.{max-eq-left, max-eq-right}
 use native.Mathlib.Omega.{arith}
-use lib.ListN.{length, take}
 use Rattle.scheme.proofs.arithmetic.add_multiple.Needs as need
 
 pub returns-then-p-r : need.returns-then-p-r

@@ -1,6 +1,6 @@
 use mathlib.Core.Path.{_≡_}
 use Prim.Native.Nat.{max}
-use lib.ListN.{length, drop, take}
+use lib.ListN.{length, take}
 use Rattle.algebra.specs.Polynomial.{plus, scale}
 use Rattle.fields.specs.Elements.{Over}
 use Rattle.scheme.proofs.arithmetic.add_scaled.Given as given

@@ -1,6 +1,6 @@
 use mathlib.Core.Path.{_≡_}
 use Prim.Native.Nat.{_≤_}
-use lib.ListN.{length, drop, take}
+use lib.ListN.{drop, take}
 use Rattle.algebra.specs.Polynomial.{eval}
 use Rattle.fields.specs.Elements.{Over}
 use Rattle.scheme.proofs.arithmetic.horner.Given as given

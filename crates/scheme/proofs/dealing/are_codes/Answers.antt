@@ -1,4 +1,4 @@
-use mathlib.Core.Path.{_≡_, sym, _∙_}
+use mathlib.Core.Path.{sym, _∙_}
 use lib.Dec.{ltb}
 use lib.ListN.{getD}
 use Rattle.scheme.proofs.Asking.{every-yes, every-no, every-done, read-is}

@@ -4,7 +4,6 @@ use mathlib.Core.List.{List}
 use Prim.Native.Nat.{ℕ, _+_, _*_}
 use native.Mathlib.Omega.{arith}
 use lib.Dec.{leb}
-use lib.ListN.{length}
 use Rattle.std.proofs.shelf.Tests.{le-leb, lt-leb}
 use Rattle.algebra.specs.Field.{Field}
 use Rattle.algebra.specs.Decoder as algebra

@@ -1,5 +1,5 @@
-use mathlib.Core.List.{List, [], _∷_}
-use mathlib.Core.Path.{ap₂, _∙_}
+use mathlib.Core.List.{List}
+use mathlib.Core.Path.{ap₂}
 use Rattle.algebra.specs.Field.{Field}
 use Rattle.algebra.specs.Decoder.{Ratio, State}
 use Rattle.fields.specs.Elements.{elements}

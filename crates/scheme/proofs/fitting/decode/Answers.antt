@@ -7,10 +7,10 @@ use lib.Dec.{eqb, leb}
 use lib.ListN.{length}
 use Rattle.std.specs.declared.option.Option.{Option}
 use Rattle.std.specs.declared.option.Option.the-variants.{Some, None}
-use Rattle.std.specs.declared.result.Result.the-variants.{Ok, Err}
+use Rattle.std.specs.declared.result.Result.the-variants.{Ok}
 use Rattle.std.proofs.shelf.Lists.{length-map}
 use Rattle.std.proofs.shelf.Tests.{and-from, and-parts, eq-eqb, eqb-true}
-use Rattle.algebra.specs.Decoder.{Fit, answer, errors, place, down}
+use Rattle.algebra.specs.Decoder.{answer, errors, place, down}
 use Rattle.algebra.proofs.Candidate.{fit-is-answer}
 use Rattle.fields.specs.Elements.{elements}
 use Rattle.fields.specs.Laws.{Codes, Field-laws}

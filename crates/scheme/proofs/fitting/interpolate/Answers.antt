@@ -1,11 +1,8 @@
 use mathlib.Core.Path.{_≡_, sym, ap, _∙_}
-use mathlib.Core.List.{List, _∷_, [], map}
-use Prim.Native.Nat.{ℕ, _-_, _≤_}
+use mathlib.Core.List.{List, map}
 use native.Mathlib.Omega.{arith}
-use lib.ListN.{length}
 use Rattle.std.specs.declared.option.Option.{Option}
 use Rattle.std.specs.declared.option.Option.the-variants.{Some, None}
-use Rattle.std.proofs.shelf.Lists.{length-map}
 use Rattle.algebra.specs.Decoder.{Ratio}
 use Rattle.fields.specs.Elements.{elements}
 use Rattle.scheme.specs.Fitting.{first, points-refusal, through, unless-refused}
