@@ -1,6 +1,5 @@
 pub mod Acceptance
 pub mod Asking
-pub mod Discrepancy
 pub mod Enumerated
 pub mod Filling
 pub mod Fitted
@@ -8,4 +7,5 @@ pub mod Memory
 pub mod PointQuestions
 pub mod Points
 pub mod Polynomials
+pub mod Stepping
 pub mod Tops

@@ -1,4 +1,4 @@
--- Points in a slice, by their numbers, and how long a held polynomial is.
+-- Points in a slice, by their numbers; how long a held polynomial is; ratios by their parts.
 -- Assumes nothing.
 use mathlib.Core.Path.{_≡_, sym, _∙_, ap}
 use mathlib.Core.List.{List, map}
@@ -7,13 +7,17 @@ use native.Mathlib.Omega.{arith}
 use lib.ListN.{length, getD}
 use Rattle.std.proofs.shelf.Lists.{getD-map, length-take-le}
 use Rattle.algebra.specs.Field.{Field}
-use Rattle.algebra.specs.Decoder.{place}
+use Rattle.algebra.specs.Decoder.{Ratio, place}
 use Rattle.scheme.specs.Held.{coefficients, abscissae, ordinates}
 use Rattle.scheme.specs.declared.held.Polynomial.{Polynomial}
 use Rattle.scheme.specs.declared.types.Point.{Point}
 
 pub long : {E : Type 0} (p : Polynomial E) → length (coefficients p) ≡ p .len
 long p = length-take-le (p .len) (p .coeffs) (omega (arith, p .ok .0, p .ok .1))
+
+-- the ratio of two lists of coefficients
+abbrev pub over : {E : Type 0} (X : Field E) → List E → List E → Ratio X
+over X top bottom = record { top = top; bottom = bottom }
 
 -- p is read at i
 module _ {E : Type 0} (X : Field E) (points : List (Point E)) (i : ℕ) (p : Point E) (is : p ≡ getD points i p) (h : i < length points) where

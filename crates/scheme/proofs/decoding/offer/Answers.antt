@@ -1,19 +1,19 @@
 use mathlib.Core.Path.{_≡_, sym, ap, _∙_}
 use native.Mathlib.Omega.{arith}
-use lib.ListN.{length}
-use Rattle.std.proofs.shelf.Lists.{length-take-le}
 use Rattle.fields.specs.Elements.{elements}
 use Rattle.fields.proofs.Elements.{zero-is, zero-code}
 use Rattle.scheme.specs.Held.{coefficients, ratio}
+use Rattle.algebra.specs.Polynomial.{eval}
 use Rattle.algebra.proofs.Growing.{offer-zero, offer-taken}
+use Rattle.scheme.proofs.Points.{long}
 use Rattle.scheme.proofs.decoding.offer.Needs as need
 
 pub returns-then-not-is-zero : need.returns-then-not-is-zero
 returns-then-not-is-zero g c = λ L.
     let X = elements L in
     let p = c .args .r .now in
-    let lq : length (coefficients (p .top)) ≡ p .top .len = length-take-le (p .top .len) (p .top .coeffs) (omega arith) in
-    c .extend .ensures L ∙ sym (offer-taken X (coefficients (c .args .e .now)) (c .args .t) (ratio X p) (c .args .x) (c .args .y) (omega (arith, c .if-r-t .taken)) (λ e. c .if-not-is-zero .ensures tt .1 (ap (g .F·Field .code) (c .value-z .ensures L ∙ e) ∙ zero-code L)))
+    let other : eval X (coefficients (c .args .e .now)) (c .args .x) ≡ X .zero → ⊥ = λ e. c .if-not-is-zero .ensures tt .1 (ap (g .F·Field .code) (c .value-z .ensures L ∙ e) ∙ zero-code L) in
+    c .extend .ensures L ∙ sym (offer-taken X (coefficients (c .args .e .now)) (c .args .t) (ratio X p) (c .args .x) (c .args .y) (omega (arith, long (p .top), c .if-r-t .taken)) other)
 
 pub returns-else-not-is-zero : need.returns-else-not-is-zero
 returns-else-not-is-zero g c = λ L.

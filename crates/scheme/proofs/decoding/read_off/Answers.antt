@@ -1,21 +1,16 @@
-use mathlib.Core.List.{List}
 use mathlib.Core.Path.{_≡_, sym, ap, ap₂, _∙_, subst}
 use Prim.Native.Nat.{suc, _≤_, _<_}
 use native.Mathlib.Numerals.{add-one}
 use native.Mathlib.Omega.{arith}
 use lib.ListN.{length}
-use Rattle.algebra.specs.Field.{Field}
 use Rattle.algebra.specs.Decoder.{Ratio, offered, collected, place, down}
 use Rattle.algebra.proofs.Growing.{collected-short}
 use Rattle.algebra.proofs.Candidate.{length-down}
 use Rattle.fields.specs.Elements.{elements}
 use Rattle.scheme.specs.Held.{ratio, coefficients, abscissae, ordinates}
 use Rattle.scheme.proofs.Memory.{roomy}
-use Rattle.scheme.proofs.Points.{long, at-x, at-y}
+use Rattle.scheme.proofs.Points.{long, over, at-x, at-y}
 use Rattle.scheme.proofs.decoding.read_off.Needs as need
-
-abbrev over : {K : Type 0} (X : Field K) → List K → List K → Ratio X
-over X a b = record { top = a; bottom = b }
 
 pub loop-i-holds : need.loop-i-holds
 loop-i-holds g c = λ L. ap₂ (over (elements L)) (c .nothing .ensures) (c .unit .ensures L)
