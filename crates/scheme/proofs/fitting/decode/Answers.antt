@@ -61,11 +61,11 @@ module _ {E : Type 0} {C : Codes} {code : E → ℕ} (L : Field-laws E C code) (
 
 pub candidate-f-requires : need.candidate-f-requires
 candidate-f-requires g c κs =
-    (roomy (g .F·Elem) (g .F·Field .codes) (g .F·Field·met .laws .on-codes) (g .F·Field·met .room) .polynomial, (bounds (g .F·Field .code) (c .args .points .now) (3 * c .args .t + 1) (c .in-Continue-ask-points .ensures tt) .0, omega arith))
+    (roomy (g .F·Elem) (g .F·Field .codes) (g .F·Field·met .laws .on-codes) (g .F·Field·met .room) .polynomial, (omega (arith, bounds (g .F·Field .code) (c .args .points .now) _ (c .in-Continue-ask-points .ensures tt) .0), omega arith))
 
 pub fits-requires : need.fits-requires
 fits-requires g c κs =
-    (roomy (g .F·Elem) (g .F·Field .codes) (g .F·Field·met .laws .on-codes) (g .F·Field·met .room) .polynomial, (bounds (g .F·Field .code) (c .args .points .now) (3 * c .args .t + 1) (c .in-Continue-ask-points .ensures tt) .0, omega arith))
+    (roomy (g .F·Elem) (g .F·Field .codes) (g .F·Field·met .laws .on-codes) (g .F·Field·met .room) .polynomial, (omega (arith, bounds (g .F·Field .code) (c .args .points .now) _ (c .in-Continue-ask-points .ensures tt) .0), omega arith))
 
 pub returns-then-not-fits : need.returns-then-not-fits
 returns-then-not-fits g c =
