@@ -1,5 +1,7 @@
 // The mathematics of finite fields and of polynomials over them. Each theorem stands on the contract of a small function, so
 // that the check asks for its proof; the functions compute nothing.
+#![tactic(auto)]
+
 ghost use Rattle.algebra.specs.Doubling.{DoublingGivesAField};
 ghost use Rattle.algebra.specs.Theorems.{AgreementIsEquality, ExactlyQPass, ExactlyTheseTuples, OneDecodes, OneInterpolates};
 

@@ -1,4 +1,6 @@
 // Deals a worked example over p251 and prints what it does: the figures, and then each card's number, value and tag.
+#![tactic(auto)]
+
 use fields::P251;
 use scheme::{Figures, Pair, deal, figures};
 use std::io;

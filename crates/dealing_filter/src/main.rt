@@ -1,4 +1,6 @@
 // Reads a dealing sheet from standard input, deals the key, and prints the texts of the cards one after another.
+#![tactic(auto)]
+
 use scheme::Pair;
 use std::io;
 use std::io::{Read, Write};

@@ -1,5 +1,7 @@
 // Decodes points over the doubled fields and prints a table: how many points and errors there were, and whether what came
 // is the polynomial that the points were made from. The file `stdout` has what is expected.
+#![tactic(auto)]
+
 use fields::{Byte, Doubled, Field, P251};
 use scheme::{Point, PointsFault, Polynomial, decode, interpolate, interpolate_at, value_at};
 use std::alloc::{AllocError, Global};

@@ -1,5 +1,7 @@
 // Decodes 64 places of 32 points with t = 10 and 10 errors each, over both doubled fields: the work on tags of one opening of the
 // largest size. With an argument it prints how long that took; with none it prints only what it decoded, which the gate compares.
+#![tactic(auto)]
+
 use fields::{Byte, Doubled, Field, P251};
 use scheme::{Point, decode};
 use std::alloc::{AllocError, Global};

@@ -1,4 +1,6 @@
 // The worked examples: one list of rows, and one statement that every row holds.
+#![tactic(auto)]
+
 ghost use Rattle.examples.specs.Examples.{Holds, examples};
 ghost use Rattle.std.specs.List.{AllByRecursion as All};
 

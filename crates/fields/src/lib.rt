@@ -1,4 +1,6 @@
 // Finite fields whose elements are numbered by codes, and the doubling of any field that can be doubled.
+#![tactic(auto)]
+
 mod byte;
 mod doubled;
 mod field;

@@ -1,5 +1,7 @@
 // Mathematics of a sitting, with no call of the product: what each call answers, by definitions that the contracts of the calls
 // cite, and theorems on every run of calls. A theorem is the contract of a function that does nothing.
+#![tactic(auto)]
+
 ghost use Rattle.runs.specs.Law.{LawApplies, LawOverRuns};
 ghost use Rattle.runs.specs.Lying.{LyingByAcceptedCalls, LyingUntilWithdrawn, OneCardEach};
 ghost use Rattle.runs.specs.Openings.{DealtCardsOpen, FittingSettles};

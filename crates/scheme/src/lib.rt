@@ -1,4 +1,6 @@
 // The scheme: its figures, the dealing of a key into shares, and the polynomials that opening rests on.
+#![tactic(auto)]
+
 mod arithmetic;
 mod dealing;
 mod decoding;

@@ -1,4 +1,6 @@
 // The table at which cards are laid.
+#![tactic(auto)]
+
 mod calls;
 mod card;
 mod holder;

@@ -1,4 +1,6 @@
 // Plays a script of calls on sittings and prints each call with its answer; the file `stdout` has the answers that are expected.
+#![tactic(auto)]
+
 ghost use Rattle.std.specs.Prelude.{◌≡◌, length, replicate};
 
 use fields::{Byte, Doublable, P251};

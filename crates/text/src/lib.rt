@@ -1,4 +1,6 @@
 // Cards as text.
+#![tactic(auto)]
+
 mod lines;
 mod numbers;
 mod putting;

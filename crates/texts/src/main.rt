@@ -1,5 +1,7 @@
 // The reader and the writer of card texts on texts and cards at the boundary of every question. Each line shows a case and the
 // answer that came, and the file `stdout` has the answers that are expected.
+#![tactic(auto)]
+
 mod cases;
 mod reading;
 mod tables;

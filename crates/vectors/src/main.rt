@@ -1,4 +1,6 @@
 // Test vectors: each line shows a case and the answer that came, and the file `stdout` has the answers that are expected.
+#![tactic(auto)]
+
 use fields::{Byte, Doubled, Field, P251};
 use scheme::{Pair, deal, figures};
 use std::io;
