@@ -18,7 +18,7 @@ loop-bit-preserved c =
     let a = c.loop-bit.power in
     let b = c.loop-bit.bits in
     let s = c.loop-bit.sum in
-    let k = c.loop-bit.-bit in
+    let k = c.loop-bit._bit in
     let e = step_is a c.loop-bit.invariant.0 in (
       subst (λ (t : ℕ). t < 256) (sym e) (xtime_below a),
       ap₂ (λ (l p : ℕ). bit_xor (bit_xor s (l * a)) (over_bits xtime (8 - (k + 1)) p (b / 2))) (lowest b) e
@@ -27,14 +27,14 @@ loop-bit-preserved c =
 
 pub returns : goal.returns
 returns c =
-    sym (ended c.loop-bit.-bit c.loop-bit.sum c.loop-bit.power c.loop-bit.bits c.loop-bit-test.false)
+    sym (ended c.loop-bit._bit c.loop-bit.sum c.loop-bit.power c.loop-bit.bits c.loop-bit-test.false)
     ∙ c.loop-bit.invariant.1
 
-pub overflow-mul-sum : goal.overflow-mul-sum
-overflow-mul-sum c =
+pub overflow_mul-sum : goal.overflow_mul-sum
+overflow_mul-sum c =
     let a = c.loop-bit.power in
     let b = c.loop-bit.bits in
     record { fits = subst (λ (t : ℕ). t * a < 256) (sym (lowest b)) (bit_below (b % 2) a (bit b) c.loop-bit.invariant.0) }
 
-pub overflow-mul-power : goal.overflow-mul-power
-overflow-mul-power c = record { fits = omega (arith, c.loop-bit.invariant.0) }
+pub overflow_mul-power : goal.overflow_mul-power
+overflow_mul-power c = record { fits = omega (arith, c.loop-bit.invariant.0) }

@@ -7,4 +7,4 @@ use Rattle.fields.proofs.byte.multiply.Given as goal
 -- the sum so far and what the bits that are left add to it make up the product
 abbrev pub invariant-loop-bit : goal.invariant-loop-bit
 invariant-loop-bit l =
-    (l.power < 256) × (bit_xor l.sum (over_bits xtime (8 - l.-bit) l.power l.bits) ≡ product l.a l.b)
+    (l.power < 256) × (bit_xor l.sum (over_bits xtime (8 - l._bit) l.power l.bits) ≡ product l.a l.b)

@@ -9,4 +9,4 @@ pub returns-then-p-gt0 : goal.returns-then-p-gt0
 returns-then-p-gt0 g c = λ L.
     let f = take c.args.p.now.len c.args.p.now.coeffs in
     let long : 0 < length f = omega (arith, length-take-le c.args.p.now.len c.args.p.now.coeffs (omega arith)) in
-    c.times-linear.ensures.value L ∙ times_root_is (elements L) c.args.z c.zero.result f long (zero_is L _ c.zero.ensures)
+    c.times_linear.ensures.value L ∙ times_root_is (elements L) c.args.z c.zero.result f long (zero_is L _ c.zero.ensures)

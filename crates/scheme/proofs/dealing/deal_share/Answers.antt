@@ -7,14 +7,14 @@ use Rattle.scheme.proofs.Filling.{filled_more, filled_all}
 use Rattle.scheme.proofs.Tops.{place_ends}
 use Rattle.scheme.proofs.dealing.deal_share.Goals as goal
 
-pub coefficients-at-value-part-requires : goal.coefficients-at-value-part-requires
-coefficients-at-value-part-requires g c =
+pub coefficients_at-value_part-requires : goal.coefficients_at-value_part-requires
+coefficients_at-value_part-requires g c =
     let f = c.args.figures.now in
     let l = c.requires.0.values_length in
     omega (arith, place_ends (f.k - 1) c.loop-j.j f.d c.loop-j-test.true)
 
-pub coefficients-at-tag-part-requires : goal.coefficients-at-tag-part-requires
-coefficients-at-tag-part-requires g c =
+pub coefficients_at-tag_part-requires : goal.coefficients_at-tag_part-requires
+coefficients_at-tag_part-requires g c =
     let f = c.args.figures.now in
     let l = c.requires.0.tags_length in
     omega (arith, place_ends (f.t + 1) c.loop-j.j f.d c.loop-j-test.true)
@@ -24,15 +24,15 @@ codes_at : (size s j : ℕ) (all part : List ℕ) → part ≡ at_place s all j 
 codes_at size s j all part e h =
     subst (All (λ a. a < size)) (sym e) (All-take (λ a. a < size) s (drop (j * s) all) (All-drop (λ a. a < size) (j * s) all h))
 
-pub deal-pair-requires : goal.deal-pair-requires
-deal-pair-requires g c =
+pub deal_pair-requires : goal.deal_pair-requires
+deal_pair-requires g c =
     let f = c.args.figures.now in
     let p = g.F.Field.codes.size in
     let a = c.requires.0 in
     let h : c.loop-j.j < length c.args.key.now = rw a.key_length c.loop-j-test.true in (
       (All-get_or (λ a. a < p) c.args.key.now c.loop-j.j 0 h a.key_codes, c.requires.1.0),
-      codes_at p (f.k - 1) c.loop-j.j c.args.values.now _ c.coefficients-at-value-part.ensures a.values_codes,
-      codes_at (p * p) (f.t + 1) c.loop-j.j c.args.tags.now _ c.coefficients-at-tag-part.ensures a.tags_codes,
+      codes_at p (f.k - 1) c.loop-j.j c.args.values.now _ c.coefficients_at-value_part.ensures a.values_codes,
+      codes_at (p * p) (f.t + 1) c.loop-j.j c.args.tags.now _ c.coefficients_at-tag_part.ensures a.tags_codes,
     )
 
 pub loop-j-init : goal.loop-j-init
@@ -48,9 +48,9 @@ loop-j-preserved g c =
     let i = c.args.i in
     let j = c.loop-j.j in
     let pair : ℕ → Pair = λ j. dealt_pair C u v (value_polynomial f key c.args.values.now j) (tag_polynomial f c.args.tags.now j) i in
-    let here : c.deal-pair.result ≡ pair j =
-    c.deal-pair.ensures
-    ∙ ap₂ (λ (values tags : List ℕ). dealt_pair C u v (get_or key j 0 ∷ values) tags i) c.coefficients-at-value-part.ensures c.coefficients-at-tag-part.ensures in
+    let here : c.deal_pair.result ≡ pair j =
+    c.deal_pair.ensures
+    ∙ ap₂ (λ (values tags : List ℕ). dealt_pair C u v (get_or key j 0 ∷ values) tags i) c.coefficients_at-value_part.ensures c.coefficients_at-tag_part.ensures in
     let h : j < length c.args.share.now = rw c.requires.1.1 c.loop-j-test.true in
     ap₂ (λ (l : List Pair) (x : Pair). set l j x) c.loop-j.invariant here ∙ filled_more pair c.args.share.now j h
 

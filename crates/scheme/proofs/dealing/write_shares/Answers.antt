@@ -9,16 +9,16 @@ use Rattle.scheme.proofs.Filling.{filled_all, groups_more}
 use Rattle.scheme.proofs.Tops.{place_ends}
 use Rattle.scheme.proofs.dealing.write_shares.Goals as goal
 
-pub slice-bounds-share-end : goal.slice-bounds-share-end
-slice-bounds-share-end g c =
+pub slice_bounds-share-end : goal.slice_bounds-share-end
+slice_bounds-share-end g c =
     let f = c.args.figures.now in
     let room = c.requires.1 in
     let long = c.loop-i.auto.shares in
     let here : c.loop-i.i < f.n = omega arith in
     omega (arith, place_ends f.d c.loop-i.i f.n here)
 
-pub deal-share-requires : goal.deal-share-requires
-deal-share-requires g c =
+pub deal_share-requires : goal.deal_share-requires
+deal_share-requires g c =
     let f = c.args.figures.now in
     let room = c.requires.1 in
     let long = c.loop-i.auto.shares in
@@ -38,10 +38,10 @@ loop-i-preserved g c =
     let share : ℕ → List Pair = dealt_share g.F.Field.codes g.F.Doublable.u g.F.Doublable.v f g1 h1 in
     let start = c.loop-i.i * f.d in
     let k = start + f.d - start in
-    ap (λ (s : List Pair). put_mid start k s c.deal-share.new.share) c.loop-i.invariant
+    ap (λ (s : List Pair). put_mid start k s c.deal_share.new.share) c.loop-i.invariant
     ∙ groups_more share f.d
     (λ i. length-map-range_with_len (λ j. dealt_pair g.F.Field.codes g.F.Doublable.u g.F.Doublable.v (g1 j) (h1 j) i) 0 f.d)
-    c.args.shares.now c.deal-share.new.share c.loop-i.i k c.deal-share.ensures (omega arith)
+    c.args.shares.now c.deal_share.new.share c.loop-i.i k c.deal_share.ensures (omega arith)
 
 pub returns : goal.returns
 returns g c =

@@ -30,7 +30,7 @@ read X points t s low r ran picked got =
     ap (λ (r : algebra.Ratio X). r.top) got ∙ ap (λ (r : algebra.Ratio X). (collected X x y r.bottom t (down (3 * t + 1))).top) (sym same)
 
 pub returns-then-s-t : goal.returns-then-s-t
-returns-then-s-t g c = λ L. read (elements L) c.args.points.now c.args.t c.run-s.result true _ (c.run-s.ensures L) (le-leb _ _ (omega (arith, c.if-s-t.true))) (c.read-off-top.ensures L)
+returns-then-s-t g c = λ L. read (elements L) c.args.points.now c.args.t c.run-s.result true _ (c.run-s.ensures L) (le-leb _ _ (omega (arith, c.if-s-t.true))) (c.read_off-top.ensures L)
 
 pub returns : goal.returns
-returns g c = λ L. read (elements L) c.args.points.now c.args.t c.run-s.result false _ (c.run-s.ensures L) (lt-leb _ _ (omega (arith, c.if-s-t.false))) (c.read-off-top-2.ensures L)
+returns g c = λ L. read (elements L) c.args.points.now c.args.t c.run-s.result false _ (c.run-s.ensures L) (lt-leb _ _ (omega (arith, c.if-s-t.false))) (c.read_off-top-2.ensures L)

@@ -17,17 +17,17 @@ turn code points i p is h rest cut new e =
     at_drop_more distinct list i 0 (rw (length-map points (λ p. code p.x)) h)
     ∙ ap (λ b. b && distinct (drop (i + 1) list)) (ap₂ (λ (a : ℕ) (l : List ℕ). every (λ b. not (eqb a b)) l) here behind ∙ e)
 
-pub returns-then-not-is-new : goal.returns-then-not-is-new
-returns-then-not-is-new g c =
+pub returns-then-not-is_new : goal.returns-then-not-is_new
+returns-then-not-is_new g c =
     let points = c.args.points.now in
     let i = c.loop-i.i in
-    sym (sym c.loop-i.invariant ∙ turn g.F.Field.code points i _ c.index-points-i.is c.loop-i-test.true _ (take_rest points (i + 1)) false (sym c.if-not-is-new.ensures))
+    sym (sym c.loop-i.invariant ∙ turn g.F.Field.code points i _ c.index-points-i.is c.loop-i-test.true _ (take_rest points (i + 1)) false (sym c.if-not-is_new.ensures))
 
 pub loop-i-preserved : goal.loop-i-preserved
 loop-i-preserved g c =
     let points = c.args.points.now in
     let i = c.loop-i.i in
-    sym (turn g.F.Field.code points i _ c.index-points-i.is c.loop-i-test.true _ (take_rest points (i + 1)) true (sym c.if-not-is-new.ensures)) ∙ c.loop-i.invariant
+    sym (turn g.F.Field.code points i _ c.index-points-i.is c.loop-i-test.true _ (take_rest points (i + 1)) true (sym c.if-not-is_new.ensures)) ∙ c.loop-i.invariant
 
 pub returns : goal.returns
 returns g c =

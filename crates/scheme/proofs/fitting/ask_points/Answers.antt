@@ -12,13 +12,13 @@ returns-then-points-least g c =
     sym (⊎_elim (λ h. too_few P c.args.least (omega arith)) (λ h. too_many P c.args.least (omega (arith, h.1)))
     c.then-points-least.either)
 
-pub returns-then-not-are-distinct : goal.returns-then-not-are-distinct
-returns-then-not-are-distinct g c =
+pub returns-then-not-are_distinct : goal.returns-then-not-are_distinct
+returns-then-not-are_distinct g c =
     let code = g.F.Field.code in
     let points = c.args.points.now in
     let P = point_codes code points in
     let long : length P ≡ length points = length-map points _ in
-    sym (within P c.args.least (omega arith) (omega arith) false (ap distinct (abscissa_codes code points) ∙ sym c.if-not-are-distinct.ensures))
+    sym (within P c.args.least (omega arith) (omega arith) false (ap distinct (abscissa_codes code points) ∙ sym c.if-not-are_distinct.ensures))
 
 pub returns : goal.returns
 returns g c =
@@ -26,4 +26,4 @@ returns g c =
     let points = c.args.points.now in
     let P = point_codes code points in
     let long : length P ≡ length points = length-map points _ in
-    sym (within P c.args.least (omega arith) (omega arith) true (ap distinct (abscissa_codes code points) ∙ sym c.if-not-are-distinct.ensures))
+    sym (within P c.args.least (omega arith) (omega arith) true (ap distinct (abscissa_codes code points) ∙ sym c.if-not-are_distinct.ensures))

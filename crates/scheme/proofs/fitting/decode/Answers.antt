@@ -52,18 +52,18 @@ module _ {E : Type 0} {C : Codes} {code : E → ℕ} (L : FieldLaws E C code) (p
 
 pub candidate-f-requires : goal.candidate-f-requires
 candidate-f-requires g c =
-    ((roomy g.row.F-Elem g.F.Field.codes g.met.F.Field.laws.on_codes g.met.F.Field.room).polynomial, (omega (arith, (bounds g.F.Field.code c.args.points.now _ c.in-ok-ask-points.ensures).0), omega arith))
+    ((roomy g.row.F-Elem g.F.Field.codes g.met.F.Field.laws.on_codes g.met.F.Field.room).polynomial, (omega (arith, (bounds g.F.Field.code c.args.points.now _ c.in_ok-ask_points.ensures).0), omega arith))
 
 pub fits-requires : goal.fits-requires
 fits-requires g c =
-    ((roomy g.row.F-Elem g.F.Field.codes g.met.F.Field.laws.on_codes g.met.F.Field.room).polynomial, (omega (arith, (bounds g.F.Field.code c.args.points.now _ c.in-ok-ask-points.ensures).0), omega arith))
+    ((roomy g.row.F-Elem g.F.Field.codes g.met.F.Field.laws.on_codes g.met.F.Field.room).polynomial, (omega (arith, (bounds g.F.Field.code c.args.points.now _ c.in_ok-ask_points.ensures).0), omega arith))
 
 pub returns-then-not-fits : goal.returns-then-not-fits
 returns-then-not-fits g c =
     let L = g.met.F.Field.laws in
-    answers L c.args.points.now c.args.t c.in-ok-ask-points.ensures c.candidate-f.result (c.candidate-f.ensures L) false (sym c.if-not-fits.ensures)
+    answers L c.args.points.now c.args.t c.in_ok-ask_points.ensures c.candidate-f.result (c.candidate-f.ensures L) false (sym c.if-not-fits.ensures)
 
 pub returns : goal.returns
 returns g c =
     let L = g.met.F.Field.laws in
-    answers L c.args.points.now c.args.t c.in-ok-ask-points.ensures c.candidate-f.result (c.candidate-f.ensures L) true (sym c.if-not-fits.ensures)
+    answers L c.args.points.now c.args.t c.in_ok-ask_points.ensures c.candidate-f.result (c.candidate-f.ensures L) true (sym c.if-not-fits.ensures)

@@ -9,12 +9,12 @@ use Rattle.scheme.proofs.Memory.{roomy}
 use Rattle.scheme.proofs.PointQuestions.{bounds, settled}
 use Rattle.scheme.proofs.fitting.interpolate.Goals as goal
 
-pub overflow-sub-n : goal.overflow-sub-n
-overflow-sub-n g c = (bounds g.F.Field.code c.args.points.now 1 c.in-ok-ask-points.ensures).0
+pub overflow_sub-n : goal.overflow_sub-n
+overflow_sub-n g c = (bounds g.F.Field.code c.args.points.now 1 c.in_ok-ask_points.ensures).0
 
-pub read-off-top-requires : goal.read-off-top-requires
-read-off-top-requires g c =
-    let high = (bounds g.F.Field.code c.args.points.now 1 c.in-ok-ask-points.ensures).1 in
+pub read_off-top-requires : goal.read_off-top-requires
+read_off-top-requires g c =
+    let high = (bounds g.F.Field.code c.args.points.now 1 c.in_ok-ask_points.ensures).1 in
     let room = roomy g.row.F-Elem g.F.Field.codes g.met.F.Field.laws.on_codes g.met.F.Field.room in
     (room.polynomial, (room.ratio, (omega arith, (omega arith, omega arith))))
 
@@ -25,9 +25,9 @@ returns g c =
     let code = g.F.Field.code in
     let points = c.args.points.now in
     let P = point_codes code points in
-    let asked : None ≡ points_refusal P 1 = c.in-ok-ask-points.ensures in
+    let asked : None ≡ points_refusal P 1 = c.in_ok-ask_points.ensures in
     let one = through_one L points (bounds code points 1 asked).0 (settled P 1 (sym asked)).distinct_abscissae (coefficients c.unit-one.result) (c.unit-one.ensures L) in
-    let got = ap (λ (r : Ratio (elements L)). r.top) (c.read-off-top.ensures L) in
+    let got = ap (λ (r : Ratio (elements L)). r.top) (c.read_off-top.ensures L) in
     ap (λ (f : List g.row.F-Elem.Denot). unless_refused None (Some (map code f))) got
     ∙ ap (unless_refused None) (sym (ap first one))
     ∙ ap (λ (r : Option PointsFault). unless_refused r (first (through C P))) asked

@@ -16,16 +16,16 @@ turn code a points i p is h same e =
     at_drop_more (every (λ b. not (eqb a b))) list i 0 (rw (length-map points (λ p. code p.x)) h)
     ∙ ap (λ b. not b && every (λ b. not (eqb a b)) (drop (i + 1) list)) (ap (eqb a) (told_at (λ p. code p.x) 0 points i p is h) ∙ e)
 
-pub returns-then-to-code : goal.returns-then-to-code
-returns-then-to-code g c =
+pub returns-then-to_code : goal.returns-then-to_code
+returns-then-to_code g c =
     let code = g.F.Field.code in
-    let same = sym c.to-code.ensures ∙ c.if-to-code.true ∙ c.to-code-in-loop-i.ensures in
+    let same = sym c.to_code.ensures ∙ c.if-to_code.true ∙ c.to_code-in-loop-i.ensures in
     sym (sym c.loop-i.invariant ∙ turn code (code c.args.x) c.args.points.now c.loop-i.i _ c.index-points-i.is c.loop-i-test.true true (eq-eqb _ _ same))
 
 pub loop-i-preserved : goal.loop-i-preserved
 loop-i-preserved g c =
     let code = g.F.Field.code in
-    let other = ne_eqb _ _ (λ e. c.if-to-code.false (c.to-code.ensures ∙ e ∙ sym c.to-code-in-loop-i.ensures)) in
+    let other = ne_eqb _ _ (λ e. c.if-to_code.false (c.to_code.ensures ∙ e ∙ sym c.to_code-in-loop-i.ensures)) in
     sym (turn code (code c.args.x) c.args.points.now c.loop-i.i _ c.index-points-i.is c.loop-i-test.true false other) ∙ c.loop-i.invariant
 
 pub returns : goal.returns

@@ -4,5 +4,5 @@ use Rattle.scheme.proofs.polynomial.element.Goals as goal
 
 pub unwrap-requires : goal.unwrap-requires
 unwrap-requires g c =
-    some_since c.from-code.result (g.F.Field.codes.size ≤ c.args.n) (λ x. g.F.Field.code x ≡ c.args.n)
-    c.from-code.ensures (λ h. omega (arith, c.requires))
+    some_since c.from_code.result (g.F.Field.codes.size ≤ c.args.n) (λ x. g.F.Field.code x ≡ c.args.n)
+    c.from_code.ensures (λ h. omega (arith, c.requires))

@@ -8,6 +8,6 @@ returns g c =
     let a = c.args.a in
     let b = c.args.b in
     let e = product2_at F.codes g.F.Doublable.u g.F.Doublable.v (F.code a.low) (F.code a.high) (F.code b.low) (F.code b.high) (below a.low) (below b.low) in
-    let l = c.multiply-out.ensures.low in
-    let h = c.multiply-out.ensures.high in
+    let l = c.multiply_out.ensures.low in
+    let h = c.multiply_out.ensures.high in
     cc

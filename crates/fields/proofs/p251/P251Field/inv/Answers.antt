@@ -3,10 +3,10 @@ use Rattle.fields.specs.InverseLaws.{entry, inverse_is}
 use Rattle.fields.specs.P251Laws.{p251_laws}
 use Rattle.fields.proofs.p251.P251Field.inv.Goals as goal
 
-pub invariant-of-result : goal.invariant-of-result
-invariant-of-result c = ((entry p251 _ c.inverse-table.ensures c.args.a.code c.args.a.below).below, tt)
+pub invariant_of-result : goal.invariant_of-result
+invariant_of-result c = record { below = (entry p251 _ c.inverse_table.ensures c.args.a.code c.args.a.below).below }
 
 pub returns : goal.returns
 returns c =
     inverse_is p251_laws c.args.a.code _ c.args.a.below
-    (entry p251 _ c.inverse-table.ensures c.args.a.code c.args.a.below)
+    (entry p251 _ c.inverse_table.ensures c.args.a.code c.args.a.below)
