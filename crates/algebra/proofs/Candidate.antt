@@ -3,7 +3,7 @@
 use Rattle.std.proofs.Common.{◌≡◌, ℕ, zero, suc, ◌+◌, ◌*◌, ◌<◌, ◌≤◌, Bool, true, false, cond, not, T, leb, List, [], ◌∷◌, length, sym, refl, ap, ◌∙◌, subst, ap₂, arith, leb→le}
 use native.Mathlib.Decide.{dec_le}
 use lib.Dec.{nleb→lt}
-use Rattle.std.specs.List.{AllByRecursion as All}
+use Rattle.std.specs.List.{AllByRecursion}
 use Rattle.algebra.specs.Field.{Field}
 use Rattle.algebra.specs.Polynomial.{Apart, eval, plus, scale}
 use Rattle.algebra.specs.Decoder.{having, miss, missing, Zero, Ratio, State, discrepancy, errors, run, chosen, extended, empty, unless, collected, place, down, answer, Fit}
@@ -25,9 +25,9 @@ module _ {K : Type 0} (X : Field K) where
     pub record Held (l : List I) (p : Ratio X) : Type 0 where
       pub long : length p.top ≡ length l
       pub long_e : length p.bottom ≡ suc (length l)
-      pub on : All (λ j. eval X p.top (x j) ≡ y j) l
-      pub roots : All (λ j. eval X p.bottom (x j) ≡ 𝟘) l
-      pub others : (z : K) → All (λ j. x j ≡ z → ⊥) l → eval X p.bottom z ≡ 𝟘 → ⊥
+      pub on : AllByRecursion (λ j. eval X p.top (x j) ≡ y j) l
+      pub roots : AllByRecursion (λ j. eval X p.bottom (x j) ≡ 𝟘) l
+      pub others : (z : K) → AllByRecursion (λ j. x j ≡ z → ⊥) l → eval X p.bottom z ≡ 𝟘 → ⊥
 
     pub held_none : Held [] (empty X)
     held_none = record {
@@ -39,7 +39,7 @@ module _ {K : Type 0} (X : Field K) where
     }
 
     -- a further point, with an abscissa of its own, can be taken
-    pub held_more : (i : I) (l : List I) (p : Ratio X) → Held l p → All (λ j. x j ≡ x i → ⊥) l → Held (i ∷ l) (extended X p (x i) (y i))
+    pub held_more : (i : I) (l : List I) (p : Ratio X) → Held l p → AllByRecursion (λ j. x j ≡ x i → ⊥) l → Held (i ∷ l) (extended X p (x i) (y i))
     held_more i l p h apart =
         let d = eval X p.bottom (x i) in
         let b = eval X p.top (x i) in
@@ -79,14 +79,14 @@ module _ {K : Type 0} (X : Field K) where
       pub record Took (is : List I) (p : Ratio X) : Type 0 where
         pub places : List I
         pub held : Held places p
-        pub away : (z : K) → All (λ j. x j ≡ z → ⊥) is → All (λ j. x j ≡ z → ⊥) places
+        pub away : (z : K) → AllByRecursion (λ j. x j ≡ z → ⊥) is → AllByRecursion (λ j. x j ≡ z → ⊥) places
         pub apart : Apart x places
-        pub right : All (λ j. eval X f (x j) ≡ y j) places
+        pub right : AllByRecursion (λ j. eval X f (x j) ≡ y j) places
         pub full : length places ≤ t → length places ≡ missing root is
         pub short : length places ≤ suc t
 
       -- a further point is offered: t + 1 points are taken already, its abscissa is a root of h, or it is taken
-      took_more : (i : I) (is : List I) (p : Ratio X) → Took is p → All (λ j. x j ≡ x i → ⊥) is
+      took_more : (i : I) (is : List I) (p : Ratio X) → Took is p → AllByRecursion (λ j. x j ≡ x i → ⊥) is
           → ((eval X h (x i) ≡ 𝟘 → ⊥) → eval X f (x i) ≡ y i) → (b : Bool) → (T b → length p.top ≤ t)
           → (T (not b) → t < length p.top) → (e : Dec (eval X h (x i) ≡ 𝟘)) → root i ≡ e
           → Took (i ∷ is) (cond b (unless X e p (extended X p (x i) (y i))) p)
@@ -118,7 +118,7 @@ module _ {K : Type 0} (X : Field K) where
         short = omega (arith, le tt, k.held.long);
       }
 
-      pub took : (is : List I) → Apart x is → All (λ i. (eval X h (x i) ≡ 𝟘 → ⊥) → eval X f (x i) ≡ y i) is
+      pub took : (is : List I) → Apart x is → AllByRecursion (λ i. (eval X h (x i) ≡ 𝟘 → ⊥) → eval X f (x i) ≡ y i) is
           → Took is (collected X x y h t is)
       took [] d r =
           record { places = []; held = held_none; away = λ z a. tt; apart = tt; right = tt; full = λ l. refl; short = omega arith }
@@ -146,11 +146,11 @@ module _ {K : Type 0} (X : Field K) where
         (f : List K) (lf : length f ≡ suc t) (ef : errors X x y f is ≤ t) where
       -- it is enough that the ratio is short, has the discrepancy zero at each point, and is not 0/0
       from_ratio : (r : Ratio X) → length r.top ≤ t + t + 1 → length r.bottom ≤ suc t
-          → All (λ i. eval X r.top (x i) ≡ y i ⊗ eval X r.bottom (x i)) is → (Zero X r.top → Zero X r.bottom → ⊥)
+          → AllByRecursion (λ i. eval X r.top (x i) ≡ y i ⊗ eval X r.bottom (x i)) is → (Zero X r.top → Zero X r.bottom → ⊥)
           → (collected X x y r.bottom t is).top ≡ f
       from_ratio r lq le on some =
           let many : t + 2 * t + 1 ≤ length is = omega arith in
-          let good : All (λ i. (eval X r.bottom (x i) ≡ 𝟘 → ⊥) → eval X f (x i) ≡ y i) is =
+          let good : AllByRecursion (λ i. (eval X r.bottom (x i) ≡ 𝟘 → ⊥) → eval X f (x i) ≡ y i) is =
           all_with (λ i k _. λ n. key_at X x y t t is d r.top r.bottom lq le on many f lf ef i k n) is on on in
           let few : length (having (root f r.bottom t) is) ≤ t =
           few_roots X x y t t is d r.top r.bottom lq le on many some in
@@ -169,8 +169,8 @@ module _ {K : Type 0} (X : Field K) where
           h : Inv X x y t is s
           h = inv_run X x y t is
 
-          sat : (r : Ratio X) → All (λ i. discrepancy X x y r i ≡ 𝟘) is
-              → All (λ i. eval X r.top (x i) ≡ y i ⊗ eval X r.bottom (x i)) is
+          sat : (r : Ratio X) → AllByRecursion (λ i. discrepancy X x y r i ≡ 𝟘) is
+              → AllByRecursion (λ i. eval X r.top (x i) ≡ y i ⊗ eval X r.bottom (x i)) is
           sat r k = all_with (λ i m _. sub_zero X _ _ m) is k k
 
           by : (b : Bool) → (T b → length s.first.top ≤ t + t + 1) → (T (not b) → t + t + 1 < length s.first.top)

@@ -4,7 +4,7 @@
 use Rattle.std.proofs.Common.{◌≡◌, ℕ, suc, ◌+◌, ◌*◌, ◌^◌, ◌≤◌, Bool, true, false, cond, List, [], ◌∷◌, ◌++◌, map, length, sym, refl, ap, ◌∙◌, subst, ap₂, inl, inr, one-mul, zero-add, one-add, arith, length-append}
 use mathlib.Core.List.{head-eq_of_cons-eq, tail-eq_of_cons-eq}
 use native.Mathlib.Nat.{pow-succ', pow-zero}
-use Rattle.std.specs.List.{AllByRecursion as All}
+use Rattle.std.specs.List.{AllByRecursion}
 use Rattle.std.proofs.lemmas.List.{length-map}
 use Rattle.std.proofs.ByRecursion.{All-append, All-weaker, All-map}
 use Rattle.algebra.specs.Polynomial.{Distinct}
@@ -21,12 +21,12 @@ free fixed [] = 0
 free fixed (i ∷ is) = cond (fixed i) 0 1 + free fixed is
 
 -- what holds of each element of a list holds of what stands in it, and back
-pub all_in : {A : Type 0} (P : A → Type 0) (l : List A) (a : A) → All P l → In a l → P a
+pub all_in : {A : Type 0} (P : A → Type 0) (l : List A) (a : A) → AllByRecursion P l → In a l → P a
 all_in P [] a h k = absurd k
 all_in P (b ∷ l) a h (inl e) = subst P (sym e) h.0
 all_in P (b ∷ l) a h (inr k) = all_in P l a h.1 k
 
-pub all_from_in : {A : Type 0} {P : A → Type 0} (l : List A) → ((a : A) → In a l → P a) → All P l
+pub all_from_in : {A : Type 0} {P : A → Type 0} (l : List A) → ((a : A) → In a l → P a) → AllByRecursion P l
 all_from_in [] h = tt
 all_from_in (b ∷ l) h = (h b (inl refl), all_from_in l (λ a k. h a (inr k)))
 
@@ -50,11 +50,11 @@ in_map_back f [] b h = absurd h
 in_map_back f (c ∷ l) b (inl e) = (c, inl refl, e)
 in_map_back f (c ∷ l) b (inr h) = let r = in_map_back f l b h in (r.0, inr r.1, r.2)
 
-pub in_self : {A : Type 0} (l : List A) → All (λ a. In a l) l
+pub in_self : {A : Type 0} (l : List A) → AllByRecursion (λ a. In a l) l
 in_self l = all_from_in l (λ a k. k)
 
 -- a distinct list stays distinct under a map that is one to one where P holds, and P holds of its elements
-pub apart_map : {A B : Type 0} {P : A → Type 0} (f : A → B) → ((a b : A) → P a → P b → f a ≡ f b → a ≡ b) → (l : List A) → All P l
+pub apart_map : {A B : Type 0} {P : A → Type 0} (f : A → B) → ((a b : A) → P a → P b → f a ≡ f b → a ≡ b) → (l : List A) → AllByRecursion P l
     → Distinct l → Distinct (map f l)
 apart_map f inj [] p d = tt
 apart_map {B = B} f inj (a ∷ l) p d = (all_from_in (map f l) other, apart_map f inj l p.1 d.1)
@@ -111,7 +111,7 @@ module _ {A B C : Type 0} (f : A → B → C) (inj : (a a' : A) (b b' : B) → f
   in_grid (c ∷ us) bs a b (inl e) k = in_left _ (grid us bs) _ (subst (λ z. In (f z b) (map (f c) bs)) (sym e) (in_map (f c) bs b k))
   in_grid (c ∷ us) bs a b (inr h) k = in_right (map (f c) bs) _ _ (in_grid us bs a b h k)
 
-  all_grid : (R : C → Type 0) (us : List A) (bs : List B) → ((a : A) (b : B) → In a us → In b bs → R (f a b)) → All R (grid us bs)
+  all_grid : (R : C → Type 0) (us : List A) (bs : List B) → ((a : A) (b : B) → In a us → In b bs → R (f a b)) → AllByRecursion R (grid us bs)
   all_grid R [] bs h = tt
   all_grid R (a ∷ us) bs h =
       All-append R (map (f a) bs) (grid us bs) (All-map R (f a) bs (all_from_in bs (λ b k. h a b (inl refl) k)))
@@ -131,7 +131,7 @@ module _ {A B C : Type 0} (f : A → B → C) (inj : (a a' : A) (b b' : B) → f
       none : (c : C) → In c (map (f a) bs) → In c (grid us bs) → ⊥
       none c m n =
           let r = in_map_back (f a) bs c m in
-          let other : All (λ z. z ≡ f a r.0 → ⊥) (grid us bs) =
+          let other : AllByRecursion (λ z. z ≡ f a r.0 → ⊥) (grid us bs) =
           all_grid (λ z. z ≡ f a r.0 → ⊥) us bs (λ a' b' k _ q. all_in _ us a' d.0 k (inj a' a b' r.0 q).0) in
           all_in _ (grid us bs) c other n r.2
 
@@ -194,7 +194,7 @@ take_out {A} (c ∷ l) a (inr h) = let t = take_out l a h in (c ∷ t.0, ap suc 
     out r k b n (inr m) = inr (k b n m)
 
 -- a distinct list whose elements stand in another list is not longer
-pub at_most : {A : Type 0} (l r : List A) → Distinct l → All (λ a. In a r) l → length l ≤ length r
+pub at_most : {A : Type 0} (l r : List A) → Distinct l → AllByRecursion (λ a. In a r) l → length l ≤ length r
 at_most [] r d h = omega arith
 at_most (a ∷ l) r d h =
     let t = take_out r a h.0 in

@@ -2,7 +2,7 @@
 -- choice of the candidate needs.
 -- Assumes nothing.
 use Rattle.std.proofs.Common.{◌≡◌, ℕ, suc, ◌+◌, ◌-◌, ◌<◌, ◌≤◌, Bool, true, false, not, T, ltb, List, [], ◌∷◌, length, sym, refl, ap, ◌∙◌, subst, ap₂, arith, ltb→lt, nltb→le}
-use Rattle.std.specs.List.{AllByRecursion as All}
+use Rattle.std.specs.List.{AllByRecursion}
 use Rattle.algebra.specs.Field.{Field}
 use Rattle.algebra.specs.Polynomial.{eval, plus, scale, lin, times_root}
 use Rattle.algebra.specs.Decoder.{Lead, Ratio, State, start, raise, add_multiple_lem, discrepancy, move, step, run}
@@ -93,8 +93,8 @@ module _ {K : Type 0} (F : Field K) where
       pub lead_b : Lead F s.second.bottom
       pub low_a : length s.first.bottom ≤ length s.first.top - t
       pub low_b : suc (length s.second.top) ≤ length s.second.bottom + t
-      pub sat_a : All (Sat s.first) done
-      pub sat_b : All (Sat s.second) done
+      pub sat_a : AllByRecursion (Sat s.first) done
+      pub sat_b : AllByRecursion (Sat s.second) done
 
     pub inv_start : Inv [] (start F)
     inv_start = record {
@@ -116,7 +116,7 @@ module _ {K : Type 0} (F : Field K) where
         (nltb→le (length s.first.top) (length s.second.bottom + t))
       where
         -- a raised ratio has the discrepancy zero at the new point too
-        raised : (p : Ratio F) → All (Sat p) done → All (Sat (raise F (x i) p)) (i ∷ done)
+        raised : (p : Ratio F) → AllByRecursion (Sat p) done → AllByRecursion (Sat (raise F (x i) p)) (i ∷ done)
         raised p k = (raise_here p i, all_with (λ j m _. raise_sat (x i) p j m) done k k)
 
         -- the bounds on the lengths, of the first and of the second ratio, where it is raised

@@ -2,7 +2,7 @@
 -- Assumes nothing.
 use Rattle.std.proofs.Common.{◌≡◌, ℕ, zero, suc, ◌+◌, ◌≤◌, List, [], ◌∷◌, length, take, refl, arith}
 use mathlib.Core.Logic.Dec
-use Rattle.std.specs.List.{AllByRecursion as All}
+use Rattle.std.specs.List.{AllByRecursion}
 use Rattle.std.proofs.ByRecursion.{All-take}
 use Rattle.algebra.specs.Polynomial.{Apart}
 use Rattle.algebra.specs.Decoder.{keep, having, miss, missing}
@@ -25,20 +25,20 @@ module _ {I : Type 0} {P : I → Type 0} (dec : (i : I) → Dec (P i)) where
       go (no p) h = omega arith
 
   -- each point that is kept has the property
-  pub having_all : (is : List I) → All P (having dec is)
+  pub having_all : (is : List I) → AllByRecursion P (having dec is)
   having_all [] = tt
   having_all (i ∷ is) = go (dec i) (having_all is)
     where
-      go : (d : Dec (P i)) → All P (having dec is) → All P (keep d i (having dec is))
+      go : (d : Dec (P i)) → AllByRecursion P (having dec is) → AllByRecursion P (keep d i (having dec is))
       go (yes p) h = (p, h)
       go (no p) h = h
 
   -- what holds of each point holds of those that are kept
-  pub all_having : (Q : I → Type 0) (is : List I) → All Q is → All Q (having dec is)
+  pub all_having : (Q : I → Type 0) (is : List I) → AllByRecursion Q is → AllByRecursion Q (having dec is)
   all_having Q [] h = tt
   all_having Q (i ∷ is) h = go (dec i) (all_having Q is h.1)
     where
-      go : (d : Dec (P i)) → All Q (having dec is) → All Q (keep d i (having dec is))
+      go : (d : Dec (P i)) → AllByRecursion Q (having dec is) → AllByRecursion Q (keep d i (having dec is))
       go (yes p) k = (h.0, k)
       go (no p) k = k
 

@@ -3,14 +3,14 @@
 -- Assumes nothing.
 use Rattle.std.proofs.Common.{◌≡◌, ℕ, suc, ◌+◌, ◌<◌, ◌≤◌, List, [], ◌∷◌, length, sym, refl, ap, ◌∙◌, ap₂, arith}
 use mathlib.Core.List.{head-eq_of_cons-eq, tail-eq_of_cons-eq, nil≢cons, cons≢nil}
-use Rattle.std.specs.List.{AllByRecursion as All}
+use Rattle.std.specs.List.{AllByRecursion}
 use Rattle.algebra.specs.Field.{Field}
 use Rattle.algebra.specs.Polynomial.{Apart, eval, plus, scale, times, lin, times_root, quotient, curve, interpolated, Through}
 use Rattle.algebra.proofs.Rules.{zero_add, add_cancel, mul_zero, one_mul, zero_mul}
 use Rattle.algebra.proofs.Normal.{v, :0, :1, ◌:+◌, ◌:-◌, ◌:*◌, :-◌, ring, ring_from}
 
 -- where P and Q hold of each element of a list, so does what follows from both
-pub all_with : {A : Type 0} {P Q R : A → Type 0} → ((a : A) → P a → Q a → R a) → (l : List A) → All P l → All Q l → All R l
+pub all_with : {A : Type 0} {P Q R : A → Type 0} → ((a : A) → P a → Q a → R a) → (l : List A) → AllByRecursion P l → AllByRecursion Q l → AllByRecursion R l
 all_with k [] p q = tt
 all_with k (a ∷ l) p q = (k a p.0 q.0, all_with k l p.1 q.1)
 
@@ -150,21 +150,21 @@ module _ {K : Type 0} (F : Field K) where
   module _ {I : Type 0} (x : I → K) where
     -- polynomials that agree at as many points as the longer one has coefficients agree everywhere
     pub agree : (is : List I) (f g : List K) → Apart x is → length f ≤ length is → length g ≤ length is
-        → All (λ i. eval F f (x i) ≡ eval F g (x i)) is → (z : K) → eval F f z ≡ eval F g z
+        → AllByRecursion (λ i. eval F f (x i) ≡ eval F g (x i)) is → (z : K) → eval F f z ≡ eval F g z
     agree [] [] [] d lf lg h z = refl
     agree [] (c ∷ f) g d lf lg h z = absurd (omega arith)
     agree [] [] (c ∷ g) d lf lg h z = absurd (omega arith)
     agree (i ∷ is) f g d lf lg h z =
         let p = divide (x i) f (length is) lf in
         let q = divide (x i) g (length is) lg in
-        let rest : All (λ j. eval F p.0 (x j) ≡ eval F q.0 (x j)) is =
+        let rest : AllByRecursion (λ j. eval F p.0 (x j) ≡ eval F q.0 (x j)) is =
         all_with (λ j n e. descend (x j) (x i) (eval F p.0 (x j)) (eval F q.0 (x j)) n (p.2 (x j)) (q.2 (x j)) h.0 e)
         is d.0 h.1 in
         p.2 z ∙ ap₂ (λ s t. s ⊕ (z ⊕ ⊖ (x i)) ⊗ t) h.0 (agree is p.0 q.0 d.1 p.1 q.1 rest z) ∙ sym (q.2 z)
 
     -- polynomials of s coefficients that agree at s points or more are equal, coefficient by coefficient
     pub same_list : (is : List I) (f g : List K) → Apart x is → length f ≡ length g → length f ≤ length is
-        → All (λ i. eval F f (x i) ≡ eval F g (x i)) is → f ≡ g
+        → AllByRecursion (λ i. eval F f (x i) ≡ eval F g (x i)) is → f ≡ g
     same_list is [] [] d e l h = refl
     same_list is [] (b ∷ g) d e l h = absurd (omega arith)
     same_list is (c ∷ f) [] d e l h = absurd (omega arith)
@@ -173,7 +173,7 @@ module _ {K : Type 0} (F : Field K) where
         let a = x i in
         let p = quotient F a f in
         let q = quotient F a g in
-        let rest : All (λ j. eval F p (x j) ≡ eval F q (x j)) is =
+        let rest : AllByRecursion (λ j. eval F p (x j) ≡ eval F q (x j)) is =
         all_with (λ j n k. descend (x j) a (eval F p (x j)) (eval F q (x j)) n (eval_quotient a c f (x j)) (eval_quotient a b g (x j))
         h.0 k) is d.0 h.1 in
         let t : f ≡ g =

@@ -3,7 +3,7 @@
 -- Assumes nothing.
 use Rattle.std.proofs.Common.{◌≡◌, ℕ, zero, suc, ◌+◌, ◌*◌, ◌≤◌, List, [], ◌∷◌, map, length, sym, refl, ap, ◌∙◌, subst, ap₂, arith}
 use native.Mathlib.Decide.{dec_le}
-use Rattle.std.specs.List.{AllByRecursion as All}
+use Rattle.std.specs.List.{AllByRecursion}
 use Rattle.std.proofs.lemmas.List.{length-map}
 use Rattle.algebra.specs.Field.{Field}
 use Rattle.algebra.specs.Polynomial.{Apart, eval, plus, scale, times}
@@ -66,7 +66,7 @@ module _ {K : Type 0} (F : Field K) where
 
   module _ {I : Type 0} (x : I → K) where
     -- a polynomial with as many roots as coefficients is zero
-    pub roots_zero : (is : List I) (f : List K) → Apart x is → length f ≤ length is → All (λ i. eval F f (x i) ≡ 𝟘) is → Zero F f
+    pub roots_zero : (is : List I) (f : List K) → Apart x is → length f ≤ length is → AllByRecursion (λ i. eval F f (x i) ≡ 𝟘) is → Zero F f
     roots_zero is f d l h =
         let g = map (λ _. 𝟘) f in
         let e = same_list F x is f g d (sym (length-map f (λ _. 𝟘))) l (all_with (λ i p _. p ∙ sym (eval_zero g (zeros f) (x i))) is h h) in
@@ -90,7 +90,7 @@ module _ {K : Type 0} (F : Field K) where
 
     -- a ratio q/e with at most m + t + 1 and m + 1 coefficients, whose discrepancy is zero at each of the points
     module _ (q e : List K) (lq : length q ≤ m + t + 1) (le : length e ≤ suc m)
-        (on : All (λ i. eval F q (x i) ≡ y i ⊗ eval F e (x i)) is) (enough : t + 2 * m + 1 ≤ length is) where
+        (on : AllByRecursion (λ i. eval F q (x i) ≡ y i ⊗ eval F e (x i)) is) (enough : t + 2 * m + 1 ≤ length is) where
       module _ (p : List K) (lp : length p ≡ suc t) (ep : errors F x y p is ≤ m) where
         -- p·e and q agree at each point through which p passes, and these are enough
         pub key : (z : K) → eval F q z ≡ eval F p z ⊗ eval F e z

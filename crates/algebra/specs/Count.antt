@@ -1,7 +1,7 @@
 -- How many things have a property, and how many tuples have a property at each place.
 -- Assumes nothing.
 use Rattle.std.specs.Prelude.{◌≡◌, ℕ, ◌⊎◌, List, [], ◌∷◌, length}
-use Rattle.std.specs.List.{AllByRecursion as All}
+use Rattle.std.specs.List.{AllByRecursion}
 use Rattle.algebra.specs.Polynomial.{Distinct}
 
 -- a stands in the list
@@ -14,7 +14,7 @@ pub record Exactly {A : Type 0} (n : ℕ) (P : A → Type 0) : Type 0 where
   pub list : List A
   pub apart : Distinct list
   pub count : length list ≡ n
-  pub sound : All P list
+  pub sound : AllByRecursion P list
   pub complete : (a : A) → P a → In a list
 
 -- a tuple has one thing for each place, and the thing at the place i has the property P i

@@ -12,7 +12,7 @@
 --
 -- Assumes nothing.
 use Rattle.std.specs.Prelude.{◌≡◌, ℕ, zero, suc, ◌+◌, ◌*◌, ◌≤◌, Bool, cond, List, [], ◌∷◌, length, nat_le, nat_lt, slice_index_or}
-use Rattle.std.specs.List.{AllByRecursion as All}
+use Rattle.std.specs.List.{AllByRecursion}
 use Rattle.algebra.specs.Field.{Field}
 use Rattle.algebra.specs.Polynomial.{eval, plus, scale, times_root}
 
@@ -44,7 +44,7 @@ module _ {K : Type 0} (F : Field K) where
   infix 80 ⊖◌
   -- each coefficient is zero
   abbrev pub Zero : List K → Type 0
-  Zero f = All (λ c. c ≡ 𝟘) f
+  Zero f = AllByRecursion (λ c. c ≡ 𝟘) f
 
   -- there is a last coefficient, and it is not zero: the degree is one less than the number of coefficients
   abbrev pub Lead : List K → Type 0

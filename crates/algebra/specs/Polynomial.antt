@@ -2,13 +2,13 @@
 -- Points have numbers, or names of another type: x i is the abscissa and y i the ordinate of the point i.
 -- Assumes nothing.
 use Rattle.std.specs.Prelude.{◌≡◌, List, [], ◌∷◌, ◌≢◌}
-use Rattle.std.specs.List.{AllByRecursion as All}
+use Rattle.std.specs.List.{AllByRecursion}
 use Rattle.algebra.specs.Field.{Field}
 
 -- no two of the points have the same abscissa
 abbrev pub Apart : {I K : Type 0} → (I → K) → List I → Type 0
 Apart x [] = Unit {0}
-Apart x (i ∷ is) = All (λ j. x j ≢ x i) is × Apart x is
+Apart x (i ∷ is) = AllByRecursion (λ j. x j ≢ x i) is × Apart x is
 
 -- no two elements of the list are equal
 abbrev pub Distinct : {A : Type 0} → List A → Type 0
@@ -69,4 +69,4 @@ module _ {K : Type 0} (F : Field K) where
 
   -- f passes through each of the points
   abbrev pub Through : {I : Type 0} → (I → K) → (I → K) → List K → List I → Type 0
-  Through x y f is = All (λ i. eval f (x i) ≡ y i) is
+  Through x y f is = AllByRecursion (λ i. eval f (x i) ≡ y i) is

@@ -2,7 +2,7 @@
 -- list of its coefficients, lowest power first, and a point is a pair of its abscissa and its ordinate.
 -- Assumes nothing.
 use Rattle.std.specs.Prelude.{◌≡◌, ℕ, ◌+◌, ◌-◌, ◌*◌, ◌^◌, ◌≤◌, List, ◌∷◌, length, is_some, Some, None, filter, Option}
-use Rattle.std.specs.List.{AllByRecursion as All}
+use Rattle.std.specs.List.{AllByRecursion}
 use Rattle.algebra.specs.Field.{Field}
 use Rattle.algebra.specs.Doubling.{Below}
 use Rattle.algebra.specs.Polynomial.{Apart, Distinct, eval, Through}
@@ -27,7 +27,7 @@ agreements F points f = length (having (λ p. F.same (eval F f (abscissa p)) (or
 abbrev pub AgreementIsEquality : Type 0
 AgreementIsEquality =
     (q : ℕ) (F : Field (Below q)) (xs : List (Below q)) → Distinct xs
-    → (f g : List (Below q)) → length f ≡ length xs → length g ≡ length xs → All (λ x. eval F f x ≡ eval F g x) xs → f ≡ g
+    → (f g : List (Below q)) → length f ≡ length xs → length g ≡ length xs → AllByRecursion (λ x. eval F f x ≡ eval F g x) xs → f ≡ g
 
 -- through s points with distinct abscissae there is exactly one polynomial of s coefficients
 abbrev pub OneInterpolates : Type 0
@@ -61,7 +61,7 @@ DistinctPoints t g = (length g.points ≡ t) × Apart abscissa (all_points g)
 -- through a further one at r of the places, there are exactly q^(d - r); with no further point q^d.
 abbrev pub ExactlyTheseTuples : Type 0
 ExactlyTheseTuples =
-    (q : ℕ) (F : Field (Below q)) (t : ℕ) (places : List (Given (Below q))) → All (DistinctPoints t) places
+    (q : ℕ) (F : Field (Below q)) (t : ℕ) (places : List (Given (Below q))) → AllByRecursion (DistinctPoints t) places
     → Exactly (q ^ (length places - length (filter (λ g. is_some g.further) places)))
     (AtEach (λ g f. (length f ≡ t + 1) × Passes F (all_points g) f) places)
 

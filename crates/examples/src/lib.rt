@@ -2,11 +2,11 @@
 #![tactic(auto)]
 
 ghost use Rattle.examples.specs.Examples.{Holds, examples};
-ghost use Rattle.std.specs.List.{AllByRecursion as All};
+ghost use Rattle.std.specs.List.{AllByRecursion};
 
 // Every worked example holds, by the definitions that the calls' contracts use.
 pub fn worked_examples() -> u8
-    ensures { All Holds examples }
+    ensures { AllByRecursion Holds examples }
 {
     0
 }

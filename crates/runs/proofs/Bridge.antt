@@ -1,7 +1,7 @@
 -- Polynomials on codes by the field of the codes: what the algebra says of polynomials over a field, said of lists of codes.
 -- Assumes nothing.
 use Rattle.std.proofs.Common.{◌≡◌, ℕ, suc, ◌+◌, ◌^◌, ◌<◌, ◌≤◌, List, [], ◌∷◌, map, length, sym, refl, ap, ◌∙◌, ap₂, arith}
-use Rattle.std.specs.List.{AllByRecursion as All}
+use Rattle.std.specs.List.{AllByRecursion}
 use Rattle.std.proofs.lemmas.List.{length-map}
 use Rattle.algebra.specs.Doubling.{Below}
 use Rattle.algebra.specs.Field.{Field}
@@ -35,19 +35,19 @@ module _ {C : Codes} (L : Laws C) where
   abbrev low : List Code → List ℕ
   low g = map (λ (a : Code). a.0) g
 
-  abbrev lift : (g : List ℕ) → All (λ a. a < C.size) g → List Code
+  abbrev lift : (g : List ℕ) → AllByRecursion (λ a. a < C.size) g → List Code
   lift [] h = []
   lift (a ∷ g) h = (a, h.0) ∷ lift g h.1
 
-  low_lift : (g : List ℕ) (h : All (λ a. a < C.size) g) → low (lift g h) ≡ g
+  low_lift : (g : List ℕ) (h : AllByRecursion (λ a. a < C.size) g) → low (lift g h) ≡ g
   low_lift [] h = refl
   low_lift (a ∷ g) h = ap (λ l. a ∷ l) (low_lift g h.1)
 
-  length_lift : (g : List ℕ) (h : All (λ a. a < C.size) g) → length (lift g h) ≡ length g
+  length_lift : (g : List ℕ) (h : AllByRecursion (λ a. a < C.size) g) → length (lift g h) ≡ length g
   length_lift [] h = refl
   length_lift (a ∷ g) h = ap suc (length_lift g h.1)
 
-  low_below : (g : List Code) → All (λ a. a < C.size) (low g)
+  low_below : (g : List Code) → AllByRecursion (λ a. a < C.size) (low g)
   low_below [] = tt
   low_below (a ∷ g) = (a.1, low_below g)
 
@@ -58,17 +58,17 @@ module _ {C : Codes} (L : Laws C) where
   low_injective (a ∷ f) (b ∷ g) e =
       let h : a.0 ≡ b.0 = cc in let t : low f ≡ low g = cc in ap₂ ◌∷◌ (same_code a b h) (low_injective f g t)
 
-  eval_lift : (g : List ℕ) (h : All (λ a. a < C.size) g) (x : Code) → (eval K (lift g h) x).0 ≡ value_at_lem C g x.0
+  eval_lift : (g : List ℕ) (h : AllByRecursion (λ a. a < C.size) g) (x : Code) → (eval K (lift g h) x).0 ≡ value_at_lem C g x.0
   eval_lift g h x = sym (value_code (numbers L) (lift g h) x) ∙ ap (λ l. value_at_lem C l x.0) (low_lift g h)
 
   -- ---- values
 
-  pub value_below : (g : List ℕ) (x : ℕ) → All (λ a. a < C.size) g → x < C.size → value_at_lem C g x < C.size
+  pub value_below : (g : List ℕ) (x : ℕ) → AllByRecursion (λ a. a < C.size) g → x < C.size → value_at_lem C g x < C.size
   value_below [] x h k = zero_below L
   value_below (c ∷ g) x h k = L.sum_below _ _ h.0 (L.product_below _ _ k (value_below g x h.1 k))
 
   -- the value at zero is the lowest coefficient
-  pub value_at_zero : (a : ℕ) (g : List ℕ) → a < C.size → All (λ c. c < C.size) g → value_at_lem C (a ∷ g) 0 ≡ a
+  pub value_at_zero : (a : ℕ) (g : List ℕ) → a < C.size → AllByRecursion (λ c. c < C.size) g → value_at_lem C (a ∷ g) 0 ≡ a
   value_at_zero a g h k = ap (C.sum a) zero_times ∙ L.sum_zero a h
     where
       y : Code
@@ -81,24 +81,24 @@ module _ {C : Codes} (L : Laws C) where
 
   -- ---- polynomials of s coefficients with the same values at s points are equal
 
-  apart_from : (x : ℕ) (k : x < C.size) (ys : List ℕ) (b : All (λ y. y < C.size) ys) → All (λ y. y ≡ x → ⊥) ys
-      → All (λ (y : Code). y ≡ (x, k) → ⊥) (lift ys b)
+  apart_from : (x : ℕ) (k : x < C.size) (ys : List ℕ) (b : AllByRecursion (λ y. y < C.size) ys) → AllByRecursion (λ y. y ≡ x → ⊥) ys
+      → AllByRecursion (λ (y : Code). y ≡ (x, k) → ⊥) (lift ys b)
   apart_from x k [] b d = tt
   apart_from x k (y ∷ ys) b d = (λ e. d.0 (ap (λ (z : Code). z.0) e), apart_from x k ys b.1 d.1)
 
-  apart_lift : (ys : List ℕ) (b : All (λ y. y < C.size) ys) → Distinct ys → Distinct (lift ys b)
+  apart_lift : (ys : List ℕ) (b : AllByRecursion (λ y. y < C.size) ys) → Distinct ys → Distinct (lift ys b)
   apart_lift [] b d = tt
   apart_lift (y ∷ ys) b d = (apart_from y b.0 ys b.1 d.0, apart_lift ys b.1 d.1)
 
   pub same_polynomial : (s : ℕ) (f g xs : List ℕ) → CodesOf C.size s f → CodesOf C.size s g → Distinct xs
-      → All (λ x. x < C.size) xs → s ≤ length xs → All (λ x. value_at_lem C f x ≡ value_at_lem C g x) xs → f ≡ g
+      → AllByRecursion (λ x. x < C.size) xs → s ≤ length xs → AllByRecursion (λ x. value_at_lem C f x ≡ value_at_lem C g x) xs → f ≡ g
   same_polynomial s f g xs hf hg d b n h =
       sym (low_lift f hf.1) ∙ ap low (same_list K (λ a. a) (lift xs b) (lift f hf.1) (lift g hg.1) (apart_lift xs b d)
       (length_lift f hf.1 ∙ hf.0 ∙ sym hg.0 ∙ sym (length_lift g hg.1))
       (omega (arith, length_lift f hf.1, length_lift xs b, hf.0)) (agree xs b h)) ∙ low_lift g hg.1
     where
-      agree : (ys : List ℕ) (b : All (λ y. y < C.size) ys) → All (λ y. value_at_lem C f y ≡ value_at_lem C g y) ys
-          → All (λ (y : Code). eval K (lift f hf.1) y ≡ eval K (lift g hg.1) y) (lift ys b)
+      agree : (ys : List ℕ) (b : AllByRecursion (λ y. y < C.size) ys) → AllByRecursion (λ y. value_at_lem C f y ≡ value_at_lem C g y) ys
+          → AllByRecursion (λ (y : Code). eval K (lift f hf.1) y ≡ eval K (lift g hg.1) y) (lift ys b)
       agree [] b h = tt
       agree (y ∷ ys) b h =
           (same_code _ _ (eval_lift f hf.1 (y, b.0) ∙ h.0 ∙ sym (eval_lift g hg.1 (y, b.0))), agree ys b.1 h.1)
@@ -106,10 +106,10 @@ module _ {C : Codes} (L : Laws C) where
   -- ---- how many polynomials pass through given points
 
   abbrev pub InField : List (ℕ × ℕ) → Type 0
-  InField points = All (λ (p : ℕ × ℕ). (p.0 < C.size) × (p.1 < C.size)) points
+  InField points = AllByRecursion (λ (p : ℕ × ℕ). (p.0 < C.size) × (p.1 < C.size)) points
 
   abbrev pub Passing : List (ℕ × ℕ) → List ℕ → Type 0
-  Passing points g = All (λ (p : ℕ × ℕ). value_at_lem C g p.0 ≡ p.1) points
+  Passing points g = AllByRecursion (λ (p : ℕ × ℕ). value_at_lem C g p.0 ≡ p.1) points
 
   abbrev lift_points : (points : List (ℕ × ℕ)) → InField points → List (Code × Code)
   lift_points [] h = []
@@ -119,8 +119,8 @@ module _ {C : Codes} (L : Laws C) where
   length_points [] h = refl
   length_points (p ∷ points) h = ap suc (length_points points h.1)
 
-  apart_point : (x : ℕ) (k : x < C.size) (points : List (ℕ × ℕ)) (h : InField points) → All (λ (p : ℕ × ℕ). p.0 ≡ x → ⊥) points
-      → All (λ (p : Code × Code). p.0 ≡ (x, k) → ⊥) (lift_points points h)
+  apart_point : (x : ℕ) (k : x < C.size) (points : List (ℕ × ℕ)) (h : InField points) → AllByRecursion (λ (p : ℕ × ℕ). p.0 ≡ x → ⊥) points
+      → AllByRecursion (λ (p : Code × Code). p.0 ≡ (x, k) → ⊥) (lift_points points h)
   apart_point x k [] h d = tt
   apart_point x k (p ∷ points) h d = (λ e. d.0 (ap (λ (z : Code). z.0) e), apart_point x k points h.1 d.1)
 
@@ -135,7 +135,7 @@ module _ {C : Codes} (L : Laws C) where
   through_passing (p ∷ points) h g o =
       (value_code (numbers L) g (p.0, h.0.0) ∙ ap (λ (z : Code). z.0) o.0, through_passing points h.1 g o.1)
 
-  passing_through : (points : List (ℕ × ℕ)) (h : InField points) (g : List ℕ) (b : All (λ a. a < C.size) g) → Passing points g
+  passing_through : (points : List (ℕ × ℕ)) (h : InField points) (g : List ℕ) (b : AllByRecursion (λ a. a < C.size) g) → Passing points g
       → Through K (λ p. p.0) (λ p. p.1) (lift g b) (lift_points points h)
   passing_through [] h g b m = tt
   passing_through (p ∷ points) h g b m =

@@ -1,7 +1,7 @@
 -- What an accepted deal gives: the polynomials of each place, and the cards that a choice of tag polynomials deals.
 -- Assumes nothing.
 use Rattle.std.proofs.Common.{◌≡◌, ℕ, suc, ◌+◌, ◌-◌, ◌*◌, ◌<◌, ◌≤◌, true, cond, not, ◌&&◌, List, [], map, length, get_or, drop, is_some, Some, None, Option, sym, refl, ap, ◌∙◌, subst, ap₂, mul-le-mul_right, suc-mul, zero-add, arith, length-drop}
-use Rattle.std.specs.List.{AllByRecursion as All}
+use Rattle.std.specs.List.{AllByRecursion}
 use Rattle.std.proofs.lemmas.List.FromFn.{length-map-range_with_len, get_or-map-range_with_len, fill_by_all}
 use Rattle.std.proofs.ByRecursion.{All-take, All-drop, All-get_or, All-map}
 use Rattle.std.proofs.lemmas.List.{length-take-le}
@@ -25,7 +25,7 @@ use Rattle.runs.proofs.Opened.{small, point_below}
 use Rattle.runs.proofs.Tables.{participant_high, RightCard}
 
 -- the coefficients of a place
-at_place_codes : (size s d : ℕ) (coefficients : List ℕ) (j : ℕ) → length coefficients ≡ d * s → All (λ a. a < size) coefficients → j < d
+at_place_codes : (size s d : ℕ) (coefficients : List ℕ) (j : ℕ) → length coefficients ≡ d * s → AllByRecursion (λ a. a < size) coefficients → j < d
     → CodesOf size s (at_place s coefficients j)
 at_place_codes size s d coefficients j e h l =
     let a : suc j * s ≤ d * s = mul-le-mul_right s l in
@@ -89,7 +89,7 @@ module _ (D : Deal) where
 
   pub deals_sound : (group : List ℕ) (c : Choice) → Deals D group c → Sound c
   deals_sound group c h j l =
-      let r = All-get_or (λ g. (length g ≡ figures.t + 1) × All (λ a. a < q D) g) c j [] (omega (arith, h.each_place)) h.degrees in
+      let r = All-get_or (λ g. (length g ≡ figures.t + 1) × AllByRecursion (λ a. a < q D) g) c j [] (omega (arith, h.each_place)) h.degrees in
       (omega (arith, r.0), r.1)
 
   pub shares_dealt : (i : ℕ) → card_under D (dealt_choice D) i ≡ dealt_card D i
@@ -133,5 +133,5 @@ module _ (D : Deal) where
         cond-true _ _ _ m ∙ cond-true _ _ _ (eq-eqb _ _ card_length) ∙ cond-true _ _ _ (card_coded s m)
 
 -- the group has the same cards under two choices
-pub same_cards : (D : Deal) (group : List ℕ) (b c : Choice) → Deals D group b → Deals D group c → All (λ i. card_under D b i ≡ card_under D c i) group
+pub same_cards : (D : Deal) (group : List ℕ) (b c : Choice) → Deals D group b → Deals D group c → AllByRecursion (λ i. card_under D b i ≡ card_under D c i) group
 same_cards D group b c hb hc = all_from_in group (λ i m. all_in _ group i hb.same_cards m ∙ sym (all_in _ group i hc.same_cards m))

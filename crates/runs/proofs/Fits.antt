@@ -1,7 +1,7 @@
 -- Which polynomials pass through points, or through all but a few of them: there is only one.
 -- Assumes nothing.
 use Rattle.std.proofs.Common.{◌≡◌, ℕ, suc, ◌+◌, ◌*◌, ◌<◌, ◌≤◌, Bool, true, List, [], ◌∷◌, map, length, filter, sym, ◌∙◌, arith}
-use Rattle.std.specs.List.{AllByRecursion as All}
+use Rattle.std.specs.List.{AllByRecursion}
 use Rattle.std.proofs.ByRecursion.{all_kept_by, All-map}
 use Rattle.std.proofs.lemmas.List.{length-map}
 use Rattle.std.proofs.lemmas.Bool.{leb-true, le-leb, eqb-true}
@@ -19,7 +19,7 @@ use Rattle.runs.proofs.Lists.{every_in, kept_in, apart_kept, kept_overlap, kept_
 -- points of the plane over the field, with distinct abscissae
 pub record Plane (C : Codes) (points : List (ℕ × ℕ)) : Type 0 where
   pub apart : Apart (λ (p : ℕ × ℕ). p.0) points
-  pub below : All (λ (p : ℕ × ℕ). p.0 < C.size) points
+  pub below : AllByRecursion (λ (p : ℕ × ℕ). p.0 < C.size) points
 
 pub plane_kept : {C : Codes} {points : List (ℕ × ℕ)} (test : ℕ × ℕ → Bool) → Plane C points → Plane C (filter test points)
 plane_kept {points = points} test h =

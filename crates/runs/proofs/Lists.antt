@@ -2,7 +2,7 @@
 -- Assumes nothing.
 use Rattle.std.proofs.Common.{◌≡◌, ℕ, zero, suc, ◌+◌, ◌<◌, ◌≤◌, Bool, true, false, cond, ◌&&◌, ◌||◌, ◌⊎◌, List, [], ◌∷◌, ◌++◌, map, length, take, Some, None, filter, sym, refl, ap, ◌∙◌, subst, ap₂, inl, inr, true≢false, arith}
 use mathlib.Core.Bool.{false≢true}
-use Rattle.std.specs.List.{range_with_len, AllByRecursion as All}
+use Rattle.std.specs.List.{range_with_len, AllByRecursion}
 use Rattle.std.proofs.ByRecursion.{all_kept_by, All-map}
 use Rattle.std.proofs.lemmas.Bool.{cond-true, or_left, or_right, or_cases, cases_Bool}
 use Rattle.algebra.specs.Polynomial.{Apart, Distinct}
@@ -20,7 +20,7 @@ pub same_some : {A : Type 0} (a b : A) → Some a ≡ Some b → a ≡ b
 same_some a b e = cc
 
 -- every answer is yes: no refusal
-pub no_refusal : (questions : List (Bool × ℕ)) → All (λ q. q.0 ≡ true) questions → first_no questions ≡ None
+pub no_refusal : (questions : List (Bool × ℕ)) → AllByRecursion (λ q. q.0 ≡ true) questions → first_no questions ≡ None
 no_refusal [] h = refl
 no_refusal (q ∷ questions) h = cond-true q.0 _ _ h.0 ∙ no_refusal questions h.1
 

@@ -1,7 +1,7 @@
 -- Which cards an open names under a choice that deals the group its cards: those that miss a tag polynomial of the choice.
 -- Assumes nothing.
 use Rattle.std.proofs.Common.{◌≡◌, ℕ, ◌+◌, ◌<◌, ◌≤◌, Bool, true, false, not, ◌||◌, ◌⊎◌, List, [], map, length, get_or, Some, filter, sym, refl, ap, ◌∙◌, subst, ap₂, inl, inr, true≢false, arith}
-use Rattle.std.specs.List.{AllByRecursion as All}
+use Rattle.std.specs.List.{AllByRecursion}
 use Rattle.std.proofs.lemmas.List.{length-map}
 use Rattle.std.proofs.lemmas.List.Filters.{length-filter_both}
 use Rattle.std.proofs.ByRecursion.{All-map}
@@ -78,7 +78,7 @@ module _ (D : Deal) (group : List ℕ) (grp : Group D.figures group) (c : Choice
   abbrev pub cards : Cards
   cards = table codes u v figures (calls D c past)
 
-  pub all_right : All (λ (a : ℕ × Card). RightCard codes figures a.0 a.1) (lying cards)
+  pub all_right : AllByRecursion (λ (a : ℕ × Card). RightCard codes figures a.0 a.1) (lying cards)
   all_right =
       all_from_in (lying cards) (λ a k. lies_right codes figures (calls D c past) a.0 a.1 (lying_lies codes figures u v (calls D c past) a k))
 

@@ -2,7 +2,7 @@
 -- Assumes nothing.
 use Rattle.std.proofs.Common.{◌≡◌, ℕ, suc, ◌+◌, ◌-◌, ◌*◌, ◌/◌, ◌%◌, ◌<◌, ◌≤◌, Bool, true, false, not, leb, ◌⊎◌, List, [], ◌∷◌, ◌++◌, map, length, get_or, replicate, Some, None, Ok, Err, filter, Option, sym, ap, ◌∙◌, subst, ap₂, inl, inr, true≢false, arith}
 use lib.ListN.{get_or-eq_default}
-use Rattle.std.specs.List.{AllByRecursion as All}
+use Rattle.std.specs.List.{AllByRecursion}
 use Rattle.std.proofs.lemmas.List.{length-map}
 use Rattle.std.proofs.ByRecursion.{All-get_or, all_kept_by, All-map, All-weaker}
 use Rattle.std.proofs.lemmas.Bool.{le-leb, eq-eqb, lt-leb, ltb-true, and_parts, not-true, cond-false, cases_lt, eqb-true, cond-true, cases_Bool}
@@ -31,7 +31,7 @@ use Rattle.runs.proofs.Tables.{RightCard, participant_high}
 
 -- points with distinct abscissae
 pub apart_points : {A : Type 0} {P : A → Type 0} (p : A → ℕ × ℕ) (x : A → ℕ) → ((a b : A) → P a → P b → (p a).0 ≡ (p b).0 → x a ≡ x b)
-    → (l : List A) → All P l → Apart x l → Apart (λ (z : ℕ × ℕ). z.0) (map p l)
+    → (l : List A) → AllByRecursion P l → Apart x l → Apart (λ (z : ℕ × ℕ). z.0) (map p l)
 apart_points p x inj [] h d = tt
 apart_points {P = P} p x inj (a ∷ l) h d = (
   All-map _ p l (all_from_in l (λ b k e. all_in _ l b d.0 k (inj b a (all_in P l b h.1 k) h.0 e))),
@@ -80,7 +80,7 @@ module _ {C : Codes} {u v : ℕ} (L : DoublableLaws C u v) (f : Figures) where
   abbrev Right : ℕ × Card → Type 0
   Right a = RightCard C f a.0 a.1
 
-  module _ (cards : Cards) (right : All Right (lying cards)) where
+  module _ (cards : Cards) (right : AllByRecursion Right (lying cards)) where
     tag_plane : (j : ℕ) → Plane (doubled C u v) (map (tag_point C j) (lying cards))
     tag_plane j = record {
       apart = apart_points (tag_point C j) number
@@ -94,7 +94,7 @@ module _ {C : Codes} {u v : ℕ} (L : DoublableLaws C u v) (f : Figures) where
     value_plane : (test : ℕ × Card → Bool) (j : ℕ) → Plane C (map (value_point j) (filter test (lying cards)))
     value_plane test j =
         let l = filter test (lying cards) in
-        let r : All Right l = all_kept_by test Right (lying cards) right in
+        let r : AllByRecursion Right l = all_kept_by test Right (lying cards) right in
         record {
           apart = apart_points (value_point j) number (λ a b p q e. e) l r (apart_kept test number (lying cards) (lying_apart cards));
           below = All-map _ (value_point j) l (All-weaker Right _ (λ a p. small a.0 (participant_high C f a.0 p.0)) l r);

@@ -1,7 +1,7 @@
 -- The opening of one table.
 -- Assumes nothing.
 use Rattle.std.proofs.Common.{◌≡◌, ℕ, ◌+◌, ◌-◌, ◌<◌, ◌≤◌, Bool, true, false, cond, not, leb, ◌⊎◌, List, [], ◌∷◌, ◌++◌, map, length, get_or, replicate, Some, None, Ok, Err, filter, Option, Result, sym, refl, ap, ◌∙◌, subst, ap₂, inl, inr, arith}
-use Rattle.std.specs.List.{range_with_len, AllByRecursion as All}
+use Rattle.std.specs.List.{range_with_len, AllByRecursion}
 use Rattle.std.proofs.ByRecursion.{All-weaker}
 use Rattle.std.proofs.lemmas.Bool.{le-leb, leb-false, eq-eqb, cond-true, cases_Bool}
 use Rattle.algebra.specs.Count.{In}
@@ -121,7 +121,7 @@ dealt_cards_open_lem D cards size alone buffer names first =
     as_dealt : (a : ℕ × Card) → In a (lying cards) → a.1 ≡ card_under D c a.0
     as_dealt a k = all_in _ (lying cards) a alone k ∙ sym (shares_dealt D a.0)
 
-    right : All (λ (a : ℕ × Card). RightCard codes figures a.0 a.1) (lying cards)
+    right : AllByRecursion (λ (a : ℕ × Card). RightCard codes figures a.0 a.1) (lying cards)
     right = all_from_in (lying cards) (λ a k.
         let r = counting_in 1 figures.n a.0 (in_collect (card_of cards) (range_with_len 1 figures.n) a
         (subst (In a) (lying_is cards figures.n size) k)).0 in

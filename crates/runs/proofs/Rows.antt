@@ -2,7 +2,7 @@
 -- coefficients 1, 0, 2 and tag coefficients 5, 3.
 -- Assumes nothing.
 use Rattle.std.proofs.Common.{◌≡◌, ℕ, zero, suc, ◌+◌, ◌-◌, ◌<◌, ◌≤◌, Bool, true, false, cond, not, ◌&&◌, ◌||◌, eqb, leb, ◌⊎◌, List, [], ◌∷◌, ◌++◌, map, length, replicate, Some, None, Ok, Err, filter, sym, refl, ap, ◌∙◌, inl, inr, true≢false, arith, lit≤, length-append}
-use Rattle.std.specs.List.{AllByRecursion as All}
+use Rattle.std.specs.List.{AllByRecursion}
 use Rattle.std.proofs.lemmas.List.Elements.{filter-append}
 use Rattle.std.proofs.ByRecursion.{All-weaker}
 use Rattle.std.proofs.lemmas.Bool.{leb-true, leb-false, eqb-true, eqb-false, ltb-true, or_cases, cases_Bool}
@@ -34,11 +34,11 @@ abbrev strays : ℕ × Card → Bool
 strays = misses p251 0 250 five tag_polynomials
 
 -- a table on which at most one card misses the tag polynomial, told by tests that compute
-module _ (cards : Cards) (passing : All (λ (a : ℕ × Card). card_refusal p251 five a.0 a.1 ≡ None) (lying cards))
+module _ (cards : Cards) (passing : AllByRecursion (λ (a : ℕ × Card). card_refusal p251 five a.0 a.1 ≡ None) (lying cards))
     (four : leb 4 (length (lying cards)) ≡ true)
     (fit : leb (length (lying cards)) (length (filter (hits p251 0 250 five tag_polynomials 0) (lying cards)) + 1) ≡ true)
     (key names : List ℕ) (first : FirstThree five (length (lying cards)) key names) where
-  right : All (λ (a : ℕ × Card). RightCard p251 five a.0 a.1) (lying cards)
+  right : AllByRecursion (λ (a : ℕ × Card). RightCard p251 five a.0 a.1) (lying cards)
   right = All-weaker (λ (a : ℕ × Card). card_refusal p251 five a.0 a.1 ≡ None) _ (λ a e. right_card p251 five a.0 a.1 e)
       (lying cards) passing
 

@@ -2,7 +2,7 @@
 -- Assumes nothing.
 use Rattle.std.proofs.Common.{◌≡◌, ℕ, zero, suc, ◌+◌, ◌-◌, ◌*◌, ◌^◌, ◌<◌, Bool, true, false, cond, not, List, [], ◌∷◌, map, length, get_or, filter, sym, refl, ap, ◌∙◌, subst, zero-add, mul-one, arith}
 use native.Mathlib.Nat.{pow-zero, pow-succ'}
-use Rattle.std.specs.List.{range_with_len, AllByRecursion as All}
+use Rattle.std.specs.List.{range_with_len, AllByRecursion}
 use Rattle.std.proofs.lemmas.List.FromFn.{length-range_with_len}
 use Rattle.std.proofs.lemmas.List.{length-map}
 use Rattle.std.proofs.ByRecursion.{All-get_or, All-map, All-weaker}
@@ -58,7 +58,7 @@ each_at P a (suc n) (x ∷ l) e h zero k = subst (λ z. P z x) (omega arith) h.0
 each_at P a (suc n) (x ∷ l) e h (suc j) k = subst (λ z. P z (get_or l j e)) (omega arith) (each_at P (a + 1) n l e h.1 j (omega arith))
 
 each_all : {A : Type 0} (P : A → Type 0) (R : ℕ → A → Type 0) (is : List ℕ) (l : List A) → ((j : ℕ) (a : A) → R j a → P a)
-    → AtEach R is l → All P l
+    → AtEach R is l → AllByRecursion P l
 each_all P R [] [] t h = tt
 each_all P R [] (x ∷ l) t h = absurd h
 each_all P R (i ∷ is) [] t h = absurd h
@@ -80,7 +80,7 @@ free_kept fixed (i ∷ is) = by (fixed i) (free_kept fixed is)
     by true h = omega arith
     by false h = omega arith
 
-all_unmap : {A B : Type 0} (P : B → Type 0) (g : A → B) (l : List A) → All P (map g l) → All (λ a. P (g a)) l
+all_unmap : {A B : Type 0} (P : B → Type 0) (g : A → B) (l : List A) → AllByRecursion P (map g l) → AllByRecursion (λ a. P (g a)) l
 all_unmap P g [] h = tt
 all_unmap P g (a ∷ l) h = (h.0, all_unmap P g l h.1)
 
@@ -97,7 +97,7 @@ module _ (D : Deal) (group : List ℕ) (grp : Group D.figures group) where
 
   -- g has t + 1 coefficients and passes through them
   abbrev Keeps : ℕ → List ℕ → Type 0
-  Keeps j g = CodesOf (q D) (figures.t + 1) g × All (λ i. value_at_lem (doubled codes u v) g (abscissa j i) ≡ (point j i).1) group
+  Keeps j g = CodesOf (q D) (figures.t + 1) g × AllByRecursion (λ i. value_at_lem (doubled codes u v) g (abscissa j i) ≡ (point j i).1) group
 
   deals_keeps : (c : Choice) → Deals D group c → AtEach Keeps (places figures) c
   deals_keeps c h =
@@ -126,7 +126,7 @@ module _ (D : Deal) (group : List ℕ) (grp : Group D.figures group) where
   abscissa_below j i l m =
       let n = member i m in point_below laws figures i _ (participant_high codes figures i n) (dealt_value_below D i j n l)
 
-  points_below : (j : ℕ) → j < figures.d → All (λ (p : ℕ × ℕ). (p.0 < q D) × (p.1 < q D)) (map (point j) group)
+  points_below : (j : ℕ) → j < figures.d → AllByRecursion (λ (p : ℕ × ℕ). (p.0 < q D) × (p.1 < q D)) (map (point j) group)
   points_below j l =
       All-map _ (point j) group (all_from_in group (λ i m. (
         abscissa_below j i l m,
@@ -209,7 +209,7 @@ module _ (D : Deal) (group : List ℕ) (grp : Group D.figures group) where
           let here = pair_below laws figures x right.2 j (omega (arith, right.1)) in
           let z = join codes.size (pair_at x j).value i in
           let zb : z < q D = point_below laws figures i _ (participant_high codes figures i right.0) here.0 in
-          let off : All (λ (p : ℕ × ℕ). p.0 ≡ z → ⊥) (map (point j) group) =
+          let off : AllByRecursion (λ (p : ℕ × ℕ). p.0 ≡ z → ⊥) (map (point j) group) =
           All-map _ (point j) group (all_from_in group (λ h k s.
           let below = dealt_value_below D h j (member h k) l in
           eqb-false _ _ (not-true _ e) (sym (point_value laws figures h i _ _ below here.0 s)

@@ -1,7 +1,7 @@
 -- The cards on a table, and what laying one down and taking one up answer. Participants are counted from 1.
 -- Assumes nothing.
 use Rattle.std.specs.Prelude.{◌≡◌, ℕ, suc, ◌-◌, ◌*◌, Bool, not, ◌&&◌, List, [], ◌∷◌, ◌++◌, length, replicate, is_some, Some, None, Ok, Err, Option, Result, ◌==◌, nat_le, nat_lt, slice_index_or, slice_set}
-use Rattle.std.specs.List.{AllByRecursion as All}
+use Rattle.std.specs.List.{AllByRecursion}
 use Rattle.fields.specs.Laws.{Codes}
 use Rattle.scheme.specs.Questions.{first_no, every}
 use Rattle.scheme.specs.declared.types.Figures.{Figures}
@@ -75,4 +75,4 @@ module _ (C : Codes) (f : Figures) where
   -- a table that a sitting can have: a place for each participant, and each card that lies passes the questions about a card
   pub record RightTable (cards : Cards) : Type 0 where
     pub place_each : length cards ≡ f.n
-    pub right_cards : All (λ a. card_refusal a.0 a.1 ≡ None) (lying cards)
+    pub right_cards : AllByRecursion (λ a. card_refusal a.0 a.1 ≡ None) (lying cards)

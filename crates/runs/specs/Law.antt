@@ -5,7 +5,7 @@
 -- cards as dealt follow the choice.
 -- Assumes nothing.
 use Rattle.std.specs.Prelude.{◌≡◌, ℕ, ◌+◌, ◌-◌, ◌*◌, ◌^◌, ◌<◌, ◌≤◌, true, false, ◌⊎◌, List, [], ◌++◌, map, length, replicate, is_some, Some, None, Ok, Err, Option, slice_index_or}
-use Rattle.std.specs.List.{AllByRecursion as All}
+use Rattle.std.specs.List.{AllByRecursion}
 use Rattle.algebra.specs.Polynomial.{Distinct}
 use Rattle.algebra.specs.Count.{In, Exactly}
 use Rattle.fields.specs.Laws.{Codes, DoublableLaws}
@@ -33,7 +33,7 @@ pub record Deal : Type 0 where
 pub record Group (f : Figures) (group : List ℕ) : Type 0 where
   pub size : length group ≡ f.t
   pub apart : Distinct group
-  pub participants : All (λ i. (1 ≤ i) × (i ≤ f.n)) group
+  pub participants : AllByRecursion (λ i. (1 ≤ i) × (i ≤ f.n)) group
 
 -- a tag choice: a tag polynomial for each place
 abbrev pub Choice : Type 0
@@ -111,8 +111,8 @@ module _ (D : Deal) where
   -- c has a polynomial of degree at most t for each place, and deals the group the cards that it was dealt
   pub record Deals (group : List ℕ) (c : Choice) : Type 0 where
     pub each_place : length c ≡ figures.d
-    pub degrees : All (λ g. (length g ≡ figures.t + 1) × All (λ a. a < q) g) c
-    pub same_cards : All (λ i. card_under c i ≡ card_under dealt_choice i) group
+    pub degrees : AllByRecursion (λ g. (length g ≡ figures.t + 1) × AllByRecursion (λ a. a < q) g) c
+    pub same_cards : AllByRecursion (λ i. card_under c i ≡ card_under dealt_choice i) group
 
   -- ---- at one open that passes its first three questions
 

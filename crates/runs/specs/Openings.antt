@@ -1,7 +1,7 @@
 -- Theorems on the opening of one table, whatever calls led to it.
 -- Assumes nothing.
 use Rattle.std.specs.Prelude.{◌≡◌, ℕ, ◌<◌, ◌≤◌, List, [], length, replicate, Ok, Err, ◌≢◌}
-use Rattle.std.specs.List.{AllByRecursion as All}
+use Rattle.std.specs.List.{AllByRecursion}
 use Rattle.fields.specs.Laws.{Codes, DoublableLaws}
 use Rattle.scheme.specs.declared.types.Figures.{Figures}
 use Rattle.runs.specs.Cards.{Cards, lying, RightTable}
@@ -26,7 +26,7 @@ FittingSettles =
 -- any k or more cards as dealt, lying alone, open to the key with no name
 abbrev pub DealtCardsOpen : Type 0
 DealtCardsOpen =
-    (D : Deal) (cards : Cards) → length cards ≡ D.figures.n → All (λ a. a.1 ≡ dealt_card D a.0) (lying cards)
+    (D : Deal) (cards : Cards) → length cards ≡ D.figures.n → AllByRecursion (λ a. a.1 ≡ dealt_card D a.0) (lying cards)
     → (buffer names : List ℕ) → FirstThree D.figures (length (lying cards)) buffer names
     → opened D.codes D.u D.v D.figures cards buffer names
     ≡ record { answer = Ok (length (lying cards), 0); key = D.key; names = replicate (length names) 0 }

@@ -1,7 +1,7 @@
 -- What the questions of dealing settle.
 -- Assumes nothing.
 use Rattle.std.proofs.Common.{◌≡◌, ℕ, ◌*◌, Bool, true, false, cond, List, [], ◌∷◌, Some, None, Option, refl, arith}
-use Rattle.std.specs.List.{AllByRecursion as All}
+use Rattle.std.specs.List.{AllByRecursion}
 use Rattle.std.proofs.lemmas.Bool.{and_parts, eqb-true}
 use Rattle.fields.specs.Laws.{Codes}
 use Rattle.scheme.specs.Questions.{first_no}
@@ -14,12 +14,12 @@ some_not_none : (e : ℕ) → ◌≡◌ {A = Option ℕ} (Some e) None → ⊥
 some_not_none e p = let z : ◌≡◌ {A = ℕ} 0 1 = cc in omega arith
 
 -- not refused: every answer is yes
-pub all_yes : (questions : List (Bool × ℕ)) → first_no questions ≡ None → All (λ q. q.0 ≡ true) questions
+pub all_yes : (questions : List (Bool × ℕ)) → first_no questions ≡ None → AllByRecursion (λ q. q.0 ≡ true) questions
 all_yes [] e = tt
 all_yes (q ∷ questions) e = by q.0 refl (λ h. all_yes questions h) e
   where
-    by : (b : Bool) → q.0 ≡ b → (first_no questions ≡ None → All (λ q. q.0 ≡ true) questions)
-        → cond b (first_no questions) (Some q.1) ≡ None → (q.0 ≡ true) × All (λ q. q.0 ≡ true) questions
+    by : (b : Bool) → q.0 ≡ b → (first_no questions ≡ None → AllByRecursion (λ q. q.0 ≡ true) questions)
+        → cond b (first_no questions) (Some q.1) ≡ None → (q.0 ≡ true) × AllByRecursion (λ q. q.0 ≡ true) questions
     by true p rest h = (p, rest h)
     by false p rest h = absurd (some_not_none q.1 h)
 

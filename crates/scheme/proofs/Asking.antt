@@ -1,7 +1,7 @@
 -- A loop that asks one question of each element, and stops at the first no.
 -- Assumes nothing.
 use Rattle.std.proofs.Common.{◌≡◌, ℕ, ◌+◌, ◌<◌, ◌≤◌, Bool, true, false, ◌&&◌, ltb, List, [], ◌∷◌, length, get_or, drop, is_some, Some, None, Option, sym, ap, ◌∙◌, subst, zero-add, MatchOption}
-use Rattle.std.specs.List.{AllByRecursion as All, range_with_len}
+use Rattle.std.specs.List.{AllByRecursion, range_with_len}
 use Rattle.std.proofs.lemmas.List.FromFn.{length-range_with_len, get_or-range_with_len}
 use Rattle.std.proofs.lemmas.List.{at_drop_more, at_drop_all}
 use Rattle.std.proofs.lemmas.Bool.{and_left, and_parts, lt-ltb, le-ltb, ltb-true}
@@ -30,12 +30,12 @@ module _ (test : ℕ → Bool) (n i : ℕ) where
   pub below_done : n ≤ i → every test (drop i (range_with_len 0 n)) ≡ true
   below_done h = every_done test (range_with_len 0 n) i 0 (rw length-range_with_len h)
 
-pub all_from_every : {A : Type 0} (test : A → Bool) (P : A → Type 0) → ((a : A) → test a ≡ true → P a) → (list : List A) → every test list ≡ true → All P list
+pub all_from_every : {A : Type 0} (test : A → Bool) (P : A → Type 0) → ((a : A) → test a ≡ true → P a) → (list : List A) → every test list ≡ true → AllByRecursion P list
 all_from_every test P f [] e = tt
 all_from_every test P f (a ∷ list) e =
     let p = and_parts (test a) (every test list) e in (f a p.0, all_from_every test P f list p.1)
 
-pub all_from_codes : (size : ℕ) (codes : List ℕ) → all_codes size codes ≡ true → All (λ a. a < size) codes
+pub all_from_codes : (size : ℕ) (codes : List ℕ) → all_codes size codes ≡ true → AllByRecursion (λ a. a < size) codes
 all_from_codes size codes e = all_from_every (λ a. ltb a size) (λ a. a < size) (λ a t. ltb-true a size t) codes e
 
 -- a code reader answers an element exactly below the size

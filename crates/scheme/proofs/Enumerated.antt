@@ -2,7 +2,7 @@
 -- Assumes nothing.
 use Rattle.std.proofs.Common.{◌≡◌, ℕ, zero, suc, ◌+◌, ◌<◌, ◌≤◌, Bool, true, false, cond, ◌⊎◌, List, [], ◌∷◌, ◌++◌, map, length, filter, sym, refl, ap, ◌∙◌, subst, ap₂, inl, inr, arith}
 use mathlib.Core.List.{head-eq_of_cons-eq, tail-eq_of_cons-eq}
-use Rattle.std.specs.List.{range_with_len, AllByRecursion as All}
+use Rattle.std.specs.List.{range_with_len, AllByRecursion}
 use Rattle.std.proofs.lemmas.Bool.{cases_eq}
 use Rattle.algebra.specs.Polynomial.{Distinct}
 use Rattle.algebra.specs.Count.{In}
@@ -85,7 +85,7 @@ before_apart (a ∷ codes) lists d e =
 
 -- a list of s codes below q
 abbrev pub CodesOf : ℕ → ℕ → List ℕ → Type 0
-CodesOf q s f = (length f ≡ s) × All (λ a. a < q) f
+CodesOf q s f = (length f ≡ s) × AllByRecursion (λ a. a < q) f
 
 pub polynomials_in : (q s : ℕ) (f : List ℕ) → CodesOf q s f → In f (polynomials q s)
 polynomials_in q zero [] h = inl refl

@@ -1,7 +1,7 @@
 -- From elements to codes: the polynomial that the decoder finds is the one that fits, and there is no other.
 -- Assumes nothing.
 use Rattle.std.proofs.Common.{◌≡◌, ℕ, zero, suc, ◌+◌, ◌-◌, ◌*◌, ◌<◌, ◌≤◌, Bool, true, false, cond, not, eqb, leb, List, [], ◌∷◌, ◌++◌, map, length, get_or, take, filter, sym, refl, ap, ◌∙◌, subst, ap₂, add-one, arith}
-use Rattle.std.specs.List.{AllByRecursion as All}
+use Rattle.std.specs.List.{AllByRecursion}
 use Rattle.std.proofs.lemmas.List.{get_or-map, length-map, take_all, take_more}
 use Rattle.std.proofs.ByRecursion.{All-get_or}
 use Rattle.std.proofs.lemmas.Bool.{eq-eqb, ne_eqb, eqb-false, leb-true, le-leb, and_parts, and_from, not-true}
@@ -48,7 +48,7 @@ every_from_kept test (a ∷ l) h = by (test a) refl (λ k. every_from_kept test 
     by false e ih k = absurd (omega (arith, kept_le test l))
 
 module _ {I : Type 0} {Q : I → Type 0} (dec : (i : I) → Dec (Q i)) where
-  none_missing : (l : List I) → All Q l → missing dec l ≡ 0
+  none_missing : (l : List I) → AllByRecursion Q l → missing dec l ≡ 0
   none_missing [] h = refl
   none_missing (i ∷ l) h = by (dec i) (none_missing l h.1)
     where
@@ -56,11 +56,11 @@ module _ {I : Type 0} {Q : I → Type 0} (dec : (i : I) → Dec (Q i)) where
       by (yes q) k = omega arith
       by (no q) k = absurd (q h.0)
 
-  all_from_none : (l : List I) → missing dec l ≡ 0 → All Q l
+  all_from_none : (l : List I) → missing dec l ≡ 0 → AllByRecursion Q l
   all_from_none [] h = tt
   all_from_none (i ∷ l) h = by (dec i) (λ k. all_from_none l k) h
     where
-      by : (d : Dec (Q i)) → (missing dec l ≡ 0 → All Q l) → miss d + missing dec l ≡ 0 → Q i × All Q l
+      by : (d : Dec (Q i)) → (missing dec l ≡ 0 → AllByRecursion Q l) → miss d + missing dec l ≡ 0 → Q i × AllByRecursion Q l
       by (yes q) ih k = (q, ih (omega arith))
       by (no q) ih k = absurd (omega arith)
 
@@ -79,7 +79,7 @@ distinct_at (a ∷ l) e zero (suc k) h b q =
     All-get_or (λ c. a ≡ c → ⊥) l k 0 (omega arith) (all_from_every (λ c. not (eqb a c)) (λ c. a ≡ c → ⊥) (λ c t. eqb-false a c (not-true (eqb a c) t)) l (and_parts _ _ e).0) q
 distinct_at (a ∷ l) e (suc i) (suc k) h b q = distinct_at l (and_parts _ _ e).1 i k (omega arith) (omega arith) q
 
-all_down : (P : ℕ → Type 0) (n : ℕ) → ((k : ℕ) → k < n → P k) → All P (down n)
+all_down : (P : ℕ → Type 0) (n : ℕ) → ((k : ℕ) → k < n → P k) → AllByRecursion P (down n)
 all_down P zero h = tt
 all_down P (suc n) h = (h n (omega arith), all_down P n (λ k l. h k (omega arith)))
 
@@ -95,12 +95,12 @@ module _ {E : Type 0} {C : Codes} {code : E → ℕ} (L : FieldLaws E C code) wh
       ap (λ v. C.sum (code c) (C.product (code x) v)) (value_code f x)
       ∙ sym (add_code L c (X.mul x (eval X f x)) ∙ ap (C.sum (code c)) (mul_code L x (eval X f x)))
 
-  codes_below : (f : List E) → All (λ a. a < C.size) (map code f)
+  codes_below : (f : List E) → AllByRecursion (λ a. a < C.size) (map code f)
   codes_below [] = tt
   codes_below (c ∷ f) = (L.code_below c, codes_below f)
 
   -- every list of codes is that of a list of elements
-  lifted : (g : List ℕ) → All (λ a. a < C.size) g → (f : List E) × (map code f ≡ g)
+  lifted : (g : List ℕ) → AllByRecursion (λ a. a < C.size) g → (f : List E) × (map code f ≡ g)
   lifted [] h = ([], refl)
   lifted (a ∷ g) h =
       let c = L.code_onto a h.0 in

@@ -9,7 +9,7 @@ use crate::held::Polynomial;
 use fields::Field;
 
 pub(crate) fn is_zero<F: Field>(a: F::Elem) -> bool
-    ensures { (T result → code a ≡ 0) × (code a ≡ 0 → T result) }
+    ensures { (T result → F.code a ≡ 0) × (F.code a ≡ 0 → T result) }
 {
     F::to_code(a) == 0
 }
@@ -17,7 +17,7 @@ pub(crate) fn is_zero<F: Field>(a: F::Elem) -> bool
 // The value at x of the first n coefficients.
 pub(crate) fn horner<F: Field>(coeffs: &[F::Elem; 64], n: usize, x: F::Elem) -> F::Elem
     requires { (length coeffs.now ≡ 64) × (n ≤ 64) }
-    ensures { Over codes code (λ X. result ≡ eval X (take n coeffs.now) x) }
+    ensures { Over F.codes F.code (λ X. result ≡ eval X (take n coeffs.now) x) }
 {
     let mut r = F::zero();
     let mut i = n;
@@ -32,7 +32,7 @@ pub(crate) fn horner<F: Field>(coeffs: &[F::Elem; 64], n: usize, x: F::Elem) -> 
 pub(crate) fn times_linear<F: Field>(s: &mut [F::Elem; 64], n: usize, a: F::Elem, b: F::Elem)
     requires { (length s.old ≡ 64) × (n < 64) }
     ensures long { length s.new ≡ 64 }
-    ensures value { Over codes code (λ X. take (n + 1) s.new ≡ lin X a b (take n s.old)) }
+    ensures value { Over F.codes F.code (λ X. take (n + 1) s.new ≡ lin X a b (take n s.old)) }
 {
     let mut before = b;
     for i in 0..n {
@@ -53,7 +53,7 @@ pub(crate) fn add_scaled<F: Field>(
 )
     requires { (length s.old ≡ 64) × ((length r.now ≡ 64) × ((n ≤ 64) × (m ≤ 64))) }
     ensures long { length s.new ≡ 64 }
-    ensures value { Over codes code (λ X. take (max n m) s.new ≡ plus X (take n s.old) (scale X c (take m r.now))) }
+    ensures value { Over F.codes F.code (λ X. take (max n m) s.new ≡ plus X (take n s.old) (scale X c (take m r.now))) }
 {
     for i in 0..m {
         let more = F::mul(c, r[i]);
@@ -66,7 +66,7 @@ pub(crate) fn add_scaled<F: Field>(
 }
 
 pub(crate) fn value<F: Field>(p: &Polynomial<F::Elem>, x: F::Elem) -> F::Elem
-    ensures { Over codes code (λ X. result ≡ eval X (coefficients p.now) x) }
+    ensures { Over F.codes F.code (λ X. result ≡ eval X (coefficients p.now) x) }
 {
     horner::<F>(&p.coeffs, p.len, x)
 }
@@ -74,7 +74,7 @@ pub(crate) fn value<F: Field>(p: &Polynomial<F::Elem>, x: F::Elem) -> F::Elem
 // p becomes (X - z)·p.
 pub(crate) fn multiply_root<F: Field>(p: &mut Polynomial<F::Elem>, z: F::Elem)
     requires { p.old.len < 64 }
-    ensures { Over codes code (λ X. coefficients p.new ≡ times_root X z (coefficients p.old)) }
+    ensures { Over F.codes F.code (λ X. coefficients p.new ≡ times_root X z (coefficients p.old)) }
 {
     if p.len > 0 {
         times_linear::<F>(&mut p.coeffs, p.len, z, F::zero());
@@ -88,7 +88,7 @@ pub(crate) fn add_multiple<F: Field>(
     c: F::Elem,
     r: &Polynomial<F::Elem>,
 )
-    ensures { Over codes code (λ X. coefficients p.new ≡ plus X (coefficients p.old) (scale X c (coefficients r.now))) }
+    ensures { Over F.codes F.code (λ X. coefficients p.new ≡ plus X (coefficients p.old) (scale X c (coefficients r.now))) }
 {
     add_scaled::<F>(&mut p.coeffs, p.len, c, &r.coeffs, r.len);
     if p.len < r.len {
@@ -98,7 +98,7 @@ pub(crate) fn add_multiple<F: Field>(
 
 // The polynomial's value at x.
 pub fn value_at<F: Field>(f: &Polynomial<F::Elem>, x: F::Elem) -> F::Elem
-    ensures { code result ≡ value_at_lem codes (polynomial_told code f.now) (code x) }
+    ensures { F.code result ≡ value_at_lem F.codes (polynomial_told F.code f.now) (F.code x) }
 {
     value::<F>(f, x)
 }

@@ -3,7 +3,7 @@ ghost use Rattle.std.specs.Prelude.{◌≡◌, ◌+◌, ◌-◌, ◌*◌, ◌<�
 ghost use Rattle.scheme.specs.Accepted.{Accepted, refusal_told};
 ghost use Rattle.scheme.specs.Dealing.{at_place, deal_number, deal_refusal, deal_told, dealing, dealt_pair, dealt_share, dealt_shares, has_top, places, tag_polynomial, value_polynomial};
 ghost use Rattle.scheme.specs.Questions.{all_codes, every};
-ghost use Rattle.std.specs.List.{AllByRecursion as All};
+ghost use Rattle.std.specs.List.{AllByRecursion};
 
 use crate::polynomial::{element, evaluate};
 use crate::types::{DealFault, Figures, Pair};
@@ -26,7 +26,7 @@ impl DealFault {
 
 // Whether every number is the code of an element.
 pub fn are_codes<F: Field>(numbers: &[u64]) -> bool
-    ensures { result ≡ all_codes codes.size numbers.now }
+    ensures { result ≡ all_codes F.codes.size numbers.now }
 {
     for n in numbers {
         if F::from_code(*n).is_none() {
@@ -46,8 +46,8 @@ fn have_codes<F: Doublable>(key: &[u64], values: &[u64], tags: &[u64]) -> bool
 // What participant i holds for one place, by its key symbol, value coefficients and tag coefficients.
 fn deal_pair<F: Doublable>(symbol: u64, values: &[u64], tags: &[u64], i: u64) -> Pair
     requires symbol_bound { (symbol < F.Field.codes.size) × (i < F.Field.codes.size) }
-    requires all { All (λ a. a < F.Field.codes.size) values.now }
-    requires all_2 { All (λ a. a < F.Field.codes.size * F.Field.codes.size) tags.now }
+    requires all { AllByRecursion (λ a. a < F.Field.codes.size) values.now }
+    requires all_2 { AllByRecursion (λ a. a < F.Field.codes.size * F.Field.codes.size) tags.now }
     ensures { result ≡ dealt_pair F.Field.codes F.Doublable.u F.Doublable.v (symbol ∷ values.now) tags.now i }
 {
     let x = element::<F>(i);

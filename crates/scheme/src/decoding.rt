@@ -22,7 +22,7 @@ fn nothing<F: Field>() -> Polynomial<F::Elem>
 
 // The polynomial 1.
 pub(crate) fn unit<F: Field>() -> Polynomial<F::Elem>
-    ensures { Over codes code (λ X. coefficients result ≡ X.one ∷ []) }
+    ensures { Over F.codes F.code (λ X. coefficients result ≡ X.one ∷ []) }
 {
     Polynomial {
         coeffs: [F::one(); 64],
@@ -33,7 +33,7 @@ pub(crate) fn unit<F: Field>() -> Polynomial<F::Elem>
 // Both parts times (X - z).
 fn raise<F: Field>(r: &mut Ratio<F::Elem>, z: F::Elem)
     requires { (r.old.top.len < 64) × (r.old.bottom.len < 64) }
-    ensures { Over codes code (λ X. ratio X r.new ≡ raised X z (ratio X r.old)) }
+    ensures { Over F.codes F.code (λ X. ratio X r.new ≡ raised X z (ratio X r.old)) }
 {
     multiply_root::<F>(&mut r.top, z);
     multiply_root::<F>(&mut r.bottom, z);
@@ -41,7 +41,7 @@ fn raise<F: Field>(r: &mut Ratio<F::Elem>, z: F::Elem)
 
 // r becomes r + c·other, part by part.
 fn combine<F: Field>(r: &mut Ratio<F::Elem>, c: F::Elem, other: &Ratio<F::Elem>)
-    ensures { Over codes code (λ X. ratio X r.new ≡ addedMultiple X (ratio X r.old) c (ratio X other.now)) }
+    ensures { Over F.codes F.code (λ X. ratio X r.new ≡ addedMultiple X (ratio X r.old) c (ratio X other.now)) }
 {
     add_multiple::<F>(&mut r.top, c, &other.top);
     add_multiple::<F>(&mut r.bottom, c, &other.bottom);
@@ -49,7 +49,7 @@ fn combine<F: Field>(r: &mut Ratio<F::Elem>, c: F::Elem, other: &Ratio<F::Elem>)
 
 // How far top is from y·bottom at x.
 fn discrepancy<F: Field>(r: &Ratio<F::Elem>, x: F::Elem, y: F::Elem) -> F::Elem
-    ensures { code result ≡ codes.sum (value_at_lem codes (polynomial_told code r.now.top) (code x)) (codes.negative (codes.product (code y) (value_at_lem codes (polynomial_told code r.now.bottom) (code x)))) }
+    ensures { F.code result ≡ F.codes.sum (value_at_lem F.codes (polynomial_told F.code r.now.top) (F.code x)) (F.codes.negative (F.codes.product (F.code y) (value_at_lem F.codes (polynomial_told F.code r.now.bottom) (F.code x)))) }
 {
     let top = value_at::<F>(&r.top, x);
     let bottom = value_at::<F>(&r.bottom, x);
@@ -59,7 +59,7 @@ fn discrepancy<F: Field>(r: &Ratio<F::Elem>, x: F::Elem, y: F::Elem) -> F::Elem
 // Takes one more point in: both discrepancies become zero there.
 fn step<F: Field>(s: &mut State<F::Elem>, x: F::Elem, y: F::Elem, t: usize)
     requires { (Shorter 64 s.old) × (t ≤ 64) }
-    ensures { Over codes code (λ X. state X s.new ≡ step_of X {I = Unit {0}} (λ _. x) (λ _. y) t (state X s.old) tt) }
+    ensures { Over F.codes F.code (λ X. state X s.new ≡ step_of X {I = Unit {0}} (λ _. x) (λ _. y) t (state X s.old) tt) }
 {
     let da = discrepancy::<F>(&s.first, x, y);
     let db = discrepancy::<F>(&s.second, x, y);
@@ -78,7 +78,7 @@ fn step<F: Field>(s: &mut State<F::Elem>, x: F::Elem, y: F::Elem, t: usize)
 
 // The ratios 1/0 and 0/1.
 fn start<F: Field>() -> State<F::Elem>
-    ensures { Over codes code (λ X. state X result ≡ start_of X) }
+    ensures { Over F.codes F.code (λ X. state X result ≡ start_of X) }
 {
     State {
         first: Ratio {
@@ -95,7 +95,7 @@ fn start<F: Field>() -> State<F::Elem>
 // Takes in the first n points.
 fn run<F: Field>(points: &[Point<F::Elem>], n: usize, t: usize) -> State<F::Elem>
     requires { (n ≤ length points.now) × ((n < 63) × (t ≤ 64)) }
-    ensures { Over codes code (λ X. state X result ≡ run_of X (place X (abscissae points.now)) (place X (ordinates points.now)) t (down n)) }
+    ensures { Over F.codes F.code (λ X. state X result ≡ run_of X (place X (abscissae points.now)) (place X (ordinates points.now)) t (down n)) }
 {
     let mut s = start::<F>();
     for i in 0..n {
@@ -108,7 +108,7 @@ fn run<F: Field>(points: &[Point<F::Elem>], n: usize, t: usize) -> State<F::Elem
 // Lets top pass through one more point, and bottom be zero there too.
 fn extend<F: Field>(r: &mut Ratio<F::Elem>, x: F::Elem, y: F::Elem)
     requires { r.old.bottom.len < 64 }
-    ensures { Over codes code (λ X. ratio X r.new ≡ extended X (ratio X r.old) x y) }
+    ensures { Over F.codes F.code (λ X. ratio X r.new ≡ extended X (ratio X r.old) x y) }
 {
     let here = value::<F>(&r.top, x);
     let other = value::<F>(&r.bottom, x);
@@ -126,7 +126,7 @@ fn offer<F: Field>(
     y: F::Elem,
 )
     requires { r.old.bottom.len < 64 }
-    ensures { Over codes code (λ X. ratio X r.new ≡ offered X (coefficients e.now) t (ratio X r.old) x y) }
+    ensures { Over F.codes F.code (λ X. ratio X r.new ≡ offered X (coefficients e.now) t (ratio X r.old) x y) }
 {
     if r.top.len <= t {
         let z = value::<F>(e, x);
@@ -144,7 +144,7 @@ pub(crate) fn read_off<F: Field>(
     t: usize,
 ) -> Ratio<F::Elem>
     requires { (n ≤ length points.now) × ((n < 63) × (t ≤ 60)) }
-    ensures { Over codes code (λ X. ratio X result ≡ collected X (place X (abscissae points.now)) (place X (ordinates points.now)) (coefficients e.now) t (down n)) }
+    ensures { Over F.codes F.code (λ X. ratio X result ≡ collected X (place X (abscissae points.now)) (place X (ordinates points.now)) (coefficients e.now) t (down n)) }
 {
     let mut r = Ratio {
         top: nothing::<F>(),
@@ -160,7 +160,7 @@ pub(crate) fn read_off<F: Field>(
 // The one polynomial that can miss at most t points, by the first 3·t + 1 of them.
 pub(crate) fn candidate<F: Field>(points: &[Point<F::Elem>], t: usize) -> Polynomial<F::Elem>
     requires { (3 * t + 1 ≤ length points.now) × (t ≤ 20) }
-    ensures { Over codes code (λ X. coefficients result ≡ answer X (abscissae points.now) (ordinates points.now) t) }
+    ensures { Over F.codes F.code (λ X. coefficients result ≡ answer X (abscissae points.now) (ordinates points.now) t) }
 {
     let n = 3 * t + 1;
     let s = run::<F>(points, n, t);

@@ -12,7 +12,7 @@ use fields::Field;
 
 // Whether no point has the abscissa x.
 fn is_new<F: Field>(points: &[Point<F::Elem>], x: F::Elem) -> bool
-    ensures { result ≡ every (λ b. not (code x == b)) (map (λ p. code p.x) points.now) }
+    ensures { result ≡ every (λ b. not (F.code x == b)) (map (λ p. F.code p.x) points.now) }
 {
     for i in 0..points.len() {
         let p = points[i];
@@ -25,7 +25,7 @@ fn is_new<F: Field>(points: &[Point<F::Elem>], x: F::Elem) -> bool
 
 // Whether no two points have one abscissa.
 fn are_distinct<F: Field>(points: &[Point<F::Elem>]) -> bool
-    ensures { result ≡ distinct (map (λ p. code p.x) points.now) }
+    ensures { result ≡ distinct (map (λ p. F.code p.x) points.now) }
 {
     for i in 0..points.len() {
         let p = points[i];
@@ -38,7 +38,7 @@ fn are_distinct<F: Field>(points: &[Point<F::Elem>]) -> bool
 
 // Puts the questions about points: from `least` to 32 of them, with distinct abscissae.
 fn ask_points<F: Field>(points: &[Point<F::Elem>], least: usize) -> Result<(), PointsFault>
-    ensures { refusal_of result ≡ points_refusal (point_codes code points.now) least }
+    ensures { refusal_of result ≡ points_refusal (point_codes F.code points.now) least }
 {
     if points.len() < least || points.len() > 32 {
         return Err(PointsFault::Count);
@@ -51,7 +51,7 @@ fn ask_points<F: Field>(points: &[Point<F::Elem>], least: usize) -> Result<(), P
 
 // Through how many of the points f passes.
 fn agreements<F: Field>(f: &Polynomial<F::Elem>, points: &[Point<F::Elem>]) -> usize
-    ensures { result ≡ agreementsOf codes (point_codes code points.now) (polynomial_told code f.now) }
+    ensures { result ≡ agreementsOf F.codes (point_codes F.code points.now) (polynomial_told F.code f.now) }
 {
     let mut count = 0;
     for i in 0..points.len() {
@@ -66,14 +66,14 @@ fn agreements<F: Field>(f: &Polynomial<F::Elem>, points: &[Point<F::Elem>]) -> u
 // Whether f has t + 1 coefficients and passes through all but at most t of the points.
 fn fits<F: Field>(f: &Polynomial<F::Elem>, points: &[Point<F::Elem>], t: usize) -> bool
     requires { (3 * t + 1 ≤ length points.now) × (t ≤ 10) }
-    ensures { result ≡ (f.now.len == t + 1 && nat_le (length points.now - t) (agreementsOf codes (point_codes code points.now) (polynomial_told code f.now))) }
+    ensures { result ≡ (f.now.len == t + 1 && nat_le (length points.now - t) (agreementsOf F.codes (point_codes F.code points.now) (polynomial_told F.code f.now))) }
 {
     f.len == t + 1 && agreements::<F>(f, points) >= points.len() - t
 }
 
 // The one polynomial with a coefficient for each point that passes through all of them.
 pub fn interpolate<F: Field>(points: &[Point<F::Elem>]) -> Result<Polynomial<F::Elem>, PointsFault>
-    ensures { interpolate_told code result ≡ interpolated codes (point_codes code points.now) }
+    ensures { interpolate_told F.code result ≡ interpolated F.codes (point_codes F.code points.now) }
 {
     ask_points::<F>(points, 1)?;
     let n = points.len();
@@ -87,7 +87,7 @@ pub fn interpolate_at<F: Field>(
     points: &[Point<F::Elem>],
     x: F::Elem,
 ) -> Result<F::Elem, PointsFault>
-    ensures { value_told code result ≡ interpolated_at codes (point_codes code points.now) (code x) }
+    ensures { value_told F.code result ≡ interpolated_at F.codes (point_codes F.code points.now) (F.code x) }
 {
     let f = interpolate::<F>(points)?;
     Ok(value_at::<F>(&f, x))
@@ -98,7 +98,7 @@ pub fn decode<F: Field>(
     points: &[Point<F::Elem>],
     t: usize,
 ) -> Result<Option<Polynomial<F::Elem>>, PointsFault>
-    ensures { decode_told code result ≡ decoded codes (point_codes code points.now) t }
+    ensures { decode_told F.code result ≡ decoded F.codes (point_codes F.code points.now) t }
 {
     if t > 10 {
         return Err(PointsFault::Count);

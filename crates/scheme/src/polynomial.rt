@@ -1,22 +1,22 @@
 // Polynomials by the codes of their coefficients, lowest power first.
 ghost use Rattle.std.specs.Prelude.{◌≡◌, ◌<◌};
 ghost use Rattle.scheme.specs.Polynomial.{value_at_lem};
-ghost use Rattle.std.specs.List.{AllByRecursion as All};
+ghost use Rattle.std.specs.List.{AllByRecursion};
 
 use fields::Field;
 
 // The element with a code that is known to be below the size.
 pub(crate) fn element<F: Field>(n: u64) -> F::Elem
-    requires { n < codes.size }
-    ensures { code result ≡ n }
+    requires { n < F.codes.size }
+    ensures { F.code result ≡ n }
 {
     F::from_code(n).unwrap()
 }
 
 // The polynomial's value at x.
 pub(crate) fn evaluate<F: Field>(coefficients: &[u64], x: F::Elem) -> F::Elem
-    requires { All (λ a. a < codes.size) coefficients.now }
-    ensures { code result ≡ value_at_lem codes coefficients.now (code x) }
+    requires { AllByRecursion (λ a. a < F.codes.size) coefficients.now }
+    ensures { F.code result ≡ value_at_lem F.codes coefficients.now (F.code x) }
 {
     let mut value = F::zero();
     for i in (0..coefficients.len()).rev() {

@@ -1,7 +1,7 @@
 -- Numbers and lists of numbers that are written and read, and read and written.
 -- Assumes nothing.
 use Rattle.std.proofs.Common.{◌≡◌, ℕ, ◌+◌, ◌*◌, ◌^◌, ◌<◌, ◌≤◌, Bool, true, false, cond, not, ◌&&◌, ◌||◌, eqb, ltb, leb, List, [], ◌∷◌, ◌++◌, map, length, get_or, take, decimal, sym, refl, ap, ◌∙◌, ap₂, ⊎_elim, append-nil, arith}
-use Rattle.std.specs.List.{flat_map, AllByRecursion as All}
+use Rattle.std.specs.List.{flat_map, AllByRecursion}
 use Rattle.std.specs.Char.{is_ascii_digit}
 use Rattle.std.specs.Int.{IsInRange}
 use Rattle.std.specs.Str.{all_ascii_digits}
@@ -66,23 +66,23 @@ pieces_front (b ∷ front) rest e =
 no_commas : (n : ℕ) → n < 10000000000 → every (λ b. not (eqb b 44)) (decimal n) ≡ true
 no_commas n h = every_weaker is_ascii_digit _ digit_no_comma (decimal n) (decimal_digits n h)
 
-pieces_numbers : (n : ℕ) (numbers : List ℕ) → All (λ m. m < 10000000000) (n ∷ numbers) → pieces (decimal n ++ others numbers) ≡ map decimal (n ∷ numbers)
+pieces_numbers : (n : ℕ) (numbers : List ℕ) → AllByRecursion (λ m. m < 10000000000) (n ∷ numbers) → pieces (decimal n ++ others numbers) ≡ map decimal (n ∷ numbers)
 pieces_numbers n [] small = pieces_front (decimal n) [] (no_commas n small.0) ∙ ap (λ t. t ∷ []) (append-nil (decimal n))
 pieces_numbers n (m ∷ numbers) small =
     pieces_front (decimal n) (others (m ∷ numbers)) (no_commas n small.0)
     ∙ ap₂ (λ t l. t ∷ l) (append-nil (decimal n)) (pieces_numbers m numbers small.1)
 
 -- the text of some numbers is a list, of those numbers
-module _ (numbers : List ℕ) (some : 1 ≤ length numbers) (small : All (λ n. n < 10000000000) numbers) where
-  pieces_listed : (list : List ℕ) → 1 ≤ length list → All (λ n. n < 10000000000) list → pieces (listed list) ≡ map decimal list
+module _ (numbers : List ℕ) (some : 1 ≤ length numbers) (small : AllByRecursion (λ n. n < 10000000000) numbers) where
+  pieces_listed : (list : List ℕ) → 1 ≤ length list → AllByRecursion (λ n. n < 10000000000) list → pieces (listed list) ≡ map decimal list
   pieces_listed [] h a = absurd (omega arith)
   pieces_listed (n ∷ list) h a = pieces_numbers n list a
 
-  are_numbers : (list : List ℕ) → All (λ n. n < 10000000000) list → every is_number (map decimal list) ≡ true
+  are_numbers : (list : List ℕ) → AllByRecursion (λ n. n < 10000000000) list → every is_number (map decimal list) ≡ true
   are_numbers [] a = refl
   are_numbers (n ∷ list) a = and_from _ _ (decimal_is_number n a.0) (are_numbers list a.1)
 
-  values_back : (list : List ℕ) → All (λ n. n < 10000000000) list → map digits_value (map decimal list) ≡ list
+  values_back : (list : List ℕ) → AllByRecursion (λ n. n < 10000000000) list → map digits_value (map decimal list) ≡ list
   values_back [] a = refl
   values_back (n ∷ list) a = ap₂ (λ m l. m ∷ l) (value_back n a.0) (values_back list a.1)
 
@@ -97,14 +97,14 @@ every_append test [] b p q = q
 every_append test (x ∷ a) b p q = let r = and_parts _ _ p in and_from _ _ r.0 (every_append test a b r.1 q)
 
 -- its bytes are digits and commas
-pub listed_bytes : (numbers : List ℕ) → All (λ n. n < 10000000000) numbers → every (λ b. is_ascii_digit b || eqb b 44) (listed numbers) ≡ true
+pub listed_bytes : (numbers : List ℕ) → AllByRecursion (λ n. n < 10000000000) numbers → every (λ b. is_ascii_digit b || eqb b 44) (listed numbers) ≡ true
 listed_bytes [] small = refl
 listed_bytes (n ∷ numbers) small = every_append _ (decimal n) (others numbers) (of_number n small.0) (of_others numbers small.1)
   where
     of_number : (m : ℕ) → m < 10000000000 → every (λ b. is_ascii_digit b || eqb b 44) (decimal m) ≡ true
     of_number m h = every_weaker is_ascii_digit _ (λ b e. or_left (is_ascii_digit b) (eqb b 44) e) (decimal m) (decimal_digits m h)
 
-    of_others : (list : List ℕ) → All (λ m. m < 10000000000) list → every (λ b. is_ascii_digit b || eqb b 44) (others list) ≡ true
+    of_others : (list : List ℕ) → AllByRecursion (λ m. m < 10000000000) list → every (λ b. is_ascii_digit b || eqb b 44) (others list) ≡ true
     of_others [] a = refl
     of_others (m ∷ list) a = every_append _ (decimal m) (others list) (of_number m a.0) (of_others list a.1)
 

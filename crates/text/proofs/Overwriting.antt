@@ -2,7 +2,7 @@
 -- Assumes nothing.
 use Rattle.std.proofs.Common.{◌≡◌, ℕ, ◌+◌, ◌*◌, ◌<◌, ◌≤◌, List, [], ◌∷◌, ◌++◌, map, length, get_or, take, decimal, sym, refl, ap, ◌∙◌, subst, append_assoc, arith}
 use lib.Seq.{paste}
-use Rattle.std.specs.List.{AllByRecursion as All}
+use Rattle.std.specs.List.{AllByRecursion}
 use Rattle.std.proofs.lemmas.Fmt.{length-decimal-le}
 use Rattle.std.proofs.lemmas.List.Edits.{length-paste, paste_none, paste-paste}
 use Rattle.std.proofs.lemmas.List.{flat_map_more, length-append, map_more}
@@ -47,14 +47,14 @@ module _ {A : Type 0} (f : A → ℕ) (list : List A) (i : ℕ) (d : A) (h : i <
       omega (arith, ap length (sym others_more) ∙ length-append (others (map f (take i list))) _)
 
 -- a list of numbers has at most six bytes for each
-length_others : (numbers : List ℕ) → All (λ n. n < 100000) numbers → length (others numbers) ≤ 6 * length numbers
+length_others : (numbers : List ℕ) → AllByRecursion (λ n. n < 100000) numbers → length (others numbers) ≤ 6 * length numbers
 length_others [] small = omega arith
 length_others (n ∷ numbers) small =
     let few = length-decimal-le 5 n (omega arith) (omega (arith, small.0)) (omega (arith, small.0)) in
     let rest = length_others numbers small.1 in
     omega (arith, length-append (44 ∷ decimal n) (others numbers))
 
-pub length_listed : (numbers : List ℕ) → All (λ n. n < 100000) numbers → length (listed numbers) ≤ 6 * length numbers
+pub length_listed : (numbers : List ℕ) → AllByRecursion (λ n. n < 100000) numbers → length (listed numbers) ≤ 6 * length numbers
 length_listed [] small = omega arith
 length_listed (n ∷ numbers) small =
     let few = length-decimal-le 5 n (omega arith) (omega (arith, small.0)) (omega (arith, small.0)) in

@@ -1,7 +1,7 @@
 -- An accepted text is written back unchanged.
 -- Assumes nothing.
 use Rattle.std.proofs.Common.{◌≡◌, ℕ, ◌+◌, ◌*◌, Bool, true, false, cond, ◌||◌, leb, List, [], ◌∷◌, ◌++◌, map, length, is_ok, Some, None, Ok, Err, Option, Result, sym, refl, ap, ◌∙◌, subst, append-nil, arith}
-use Rattle.std.specs.List.{AllByRecursion as All}
+use Rattle.std.specs.List.{AllByRecursion}
 use Rattle.std.specs.Str.{bytes_eq}
 use Rattle.std.proofs.lemmas.Slice.Eq.{bytes_eq-Decides}
 use Rattle.std.proofs.lemmas.List.{nil_from_length}
@@ -85,7 +85,7 @@ module _ (text c₀ c₁ c₂ c₃ c₄ c₅ c₆ c₇ rest : List ℕ) where
   abbrev tells : Reading
   tells = reading (field_named_lem c₀) (digits_value c₁) (digits_value c₂) (digits_value c₃) (digits_value c₄) (digits_value c₅) (numbers_in c₆) (numbers_in c₇) rest
 
-  told_back : Back card_keys text all_contents rest → All (λ q. q.0 ≡ true) told → WrittenBack text tells
+  told_back : Back card_keys text all_contents rest → AllByRecursion (λ q. q.0 ≡ true) told → WrittenBack text tells
   unfolding passing
   told_back back yeses =
       let f = passing (digits_value c₁) (digits_value c₂) (digits_value c₃) (digits_value c₄) yeses.1.0 in

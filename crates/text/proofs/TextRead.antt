@@ -1,7 +1,7 @@
 -- The text of a card that passes its questions fits, and is read as that card.
 -- Assumes nothing.
 use Rattle.std.proofs.Common.{◌≡◌, ℕ, ◌+◌, ◌*◌, ◌<◌, ◌≤◌, true, leb, List, [], ◌∷◌, ◌++◌, map, length, drop, is_ok, None, Ok, Err, decimal, sym, refl, ap, ◌∙◌, subst, mul-le-mul, arith}
-use Rattle.std.specs.List.{AllByRecursion as All}
+use Rattle.std.specs.List.{AllByRecursion}
 use Rattle.std.proofs.lemmas.Fmt.{length-decimal-le}
 use Rattle.std.proofs.ByRecursion.{All-map, All-weaker}
 use Rattle.std.proofs.lemmas.List.{length-append, length-map}
@@ -41,7 +41,7 @@ unpaired : (card : List Pair) → paired (map (λ (pair : Pair). pair.value) car
 unpaired [] = refl
 unpaired (pair ∷ card) = ap (λ l. pair ∷ l) (unpaired card)
 
-all_codes_from : (size : ℕ) (list : List ℕ) → All (λ n. n < size) list → all_codes size list ≡ true
+all_codes_from : (size : ℕ) (list : List ℕ) → AllByRecursion (λ n. n < size) list → all_codes size list ≡ true
 all_codes_from size [] a = refl
 all_codes_from size (n ∷ list) a = and_from _ _ (lt-ltb n size a.0) (all_codes_from size list a.1)
 
@@ -77,19 +77,19 @@ module _ (field : FieldName) (f : Figures) (number : ℕ) (card : List Pair) (un
   abbrev tags : List ℕ
   tags = map (λ (pair : Pair). pair.tag) card
 
-  values_codes : All (λ n. n < (codes_of field).size) values
+  values_codes : AllByRecursion (λ n. n < (codes_of field).size) values
   values_codes = All-map _ (λ (pair : Pair). pair.value) card (All-weaker _ _ (λ pair c. c.0) card p.codes)
 
-  tags_codes : All (λ n. n < (codes_of field).size * (codes_of field).size) tags
+  tags_codes : AllByRecursion (λ n. n < (codes_of field).size * (codes_of field).size) tags
   tags_codes = All-map _ (λ (pair : Pair). pair.tag) card (All-weaker _ _ (λ pair c. c.1) card p.codes)
 
   p_small : (codes_of field).size * (codes_of field).size ≤ 65536
   p_small = mul-le-mul (size_small field) (size_small field)
 
-  values_small : {m : ℕ} → 256 ≤ m → All (λ n. n < m) values
+  values_small : {m : ℕ} → 256 ≤ m → AllByRecursion (λ n. n < m) values
   values_small {m} h = All-weaker _ (λ n. n < m) (λ n c. omega (arith, size_small field)) values values_codes
 
-  tags_small : {m : ℕ} → 65536 ≤ m → All (λ n. n < m) tags
+  tags_small : {m : ℕ} → 65536 ≤ m → AllByRecursion (λ n. n < m) tags
   tags_small {m} h = All-weaker _ (λ n. n < m) (λ n c. omega (arith, p_small)) tags tags_codes
 
   some : (g : Pair → ℕ) → 1 ≤ length (map g card)
@@ -178,7 +178,7 @@ module _ (field : FieldName) (f : Figures) (number : ℕ) (card : List Pair) (un
       good_name Byte = record { bytes = refl; is = refl }
       good_name P251 = record { bytes = refl; is = refl }
 
-  asked : All (λ q. q.0 ≡ true) (reading_questions field f.n f.k f.t f.d number values tags [])
+  asked : AllByRecursion (λ q. q.0 ≡ true) (reading_questions field f.n f.k f.t f.d number values tags [])
   asked = (
     refl,
     (

@@ -1,7 +1,7 @@
 -- A card that passed the questions can be written, and what the writer then leaves.
 -- Assumes nothing.
 use Rattle.std.proofs.Common.{◌≡◌, ℕ, ◌+◌, ◌*◌, ◌<◌, ◌≤◌, true, List, [], ◌∷◌, ◌++◌, length, drop, Some, None, sym, refl, ap, ◌∙◌, mul-le-mul, zero-add, arith, lit≤}
-use Rattle.std.specs.List.{AllByRecursion as All}
+use Rattle.std.specs.List.{AllByRecursion}
 use Rattle.std.proofs.lemmas.List.Edits.{paste_all}
 use Rattle.std.proofs.ByRecursion.{All-weaker}
 use Rattle.std.proofs.lemmas.Bool.{and_parts, eqb-true, le-leb, leb-true, ltb-true}
@@ -25,7 +25,7 @@ pub record Passed (field : FieldName) (f : Figures) (number : ℕ) (card : List 
   pub from_one : 1 ≤ number
   pub to_n : number ≤ f.n
   pub pairs : length card ≡ f.d
-  pub codes : All (λ pair. (pair.value < (codes_of field).size) × (pair.tag < (codes_of field).size * (codes_of field).size)) card
+  pub codes : AllByRecursion (λ pair. (pair.value < (codes_of field).size) × (pair.tag < (codes_of field).size * (codes_of field).size)) card
 
 module _ (field : FieldName) (f : Figures) (number : ℕ) (card : List Pair) (unrefused : card_refusal (codes_of field) f number card ≡ None) where
   pub passed : Passed field f number card

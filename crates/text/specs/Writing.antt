@@ -2,7 +2,7 @@
 -- Assumes nothing.
 use Rattle.std.specs.Prelude.{◌≡◌, ℕ, ◌+◌, ◌<◌, ◌≤◌, List, length}
 use Rattle.std.proofs.Math.Seq.{paste}
-use Rattle.std.specs.List.{AllByRecursion as All}
+use Rattle.std.specs.List.{AllByRecursion}
 use Rattle.scheme.specs.declared.types.Pair.{Pair}
 use Rattle.text.specs.declared.types.Half.{Half}
 use Rattle.text.specs.declared.types.Half.TheVariants.{Value, Tag}
@@ -22,6 +22,6 @@ pub record Writable (number : ℕ) (card : List Pair) (buffer : List ℕ) : Type
   pub number_small : number ≤ 32
   pub some : 1 ≤ length card
   pub few : length card ≤ 64
-  pub values_small : All (λ pair. picked Value pair < 100000) card
-  pub tags_small : All (λ pair. picked Tag pair < 100000) card
+  pub values_small : AllByRecursion (λ pair. picked Value pair < 100000) card
+  pub tags_small : AllByRecursion (λ pair. picked Tag pair < 100000) card
   pub room : 1024 ≤ length buffer

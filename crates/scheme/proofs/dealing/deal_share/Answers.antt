@@ -1,5 +1,5 @@
 use Rattle.std.proofs.Common.{◌≡◌, ℕ, ◌+◌, ◌-◌, ◌*◌, ◌<◌, List, ◌∷◌, map, length, get_or, take, drop, set, sym, refl, ap, ◌∙◌, subst, ap₂, arith}
-use Rattle.std.specs.List.{range_with_len, AllByRecursion as All}
+use Rattle.std.specs.List.{range_with_len, AllByRecursion}
 use Rattle.std.proofs.ByRecursion.{All-get_or, All-take, All-drop}
 use Rattle.scheme.specs.Dealing.{at_place, dealt_pair, value_polynomial, tag_polynomial}
 use Rattle.scheme.specs.declared.types.Pair.{Pair}
@@ -20,9 +20,9 @@ coefficients_at-tag_part-requires g c =
     omega (arith, place_ends (f.t + 1) c.loop-j.j f.d c.loop-j-test.true)
 
 -- the coefficients of a place are codes where all are
-codes_at : (size s j : ℕ) (all part : List ℕ) → part ≡ at_place s all j → All (λ a. a < size) all → All (λ a. a < size) part
+codes_at : (size s j : ℕ) (all part : List ℕ) → part ≡ at_place s all j → AllByRecursion (λ a. a < size) all → AllByRecursion (λ a. a < size) part
 codes_at size s j all part e h =
-    subst (All (λ a. a < size)) (sym e) (All-take (λ a. a < size) s (drop (j * s) all) (All-drop (λ a. a < size) (j * s) all h))
+    subst (AllByRecursion (λ a. a < size)) (sym e) (All-take (λ a. a < size) s (drop (j * s) all) (All-drop (λ a. a < size) (j * s) all h))
 
 pub deal_pair-requires : goal.deal_pair-requires
 deal_pair-requires g c =

@@ -1,5 +1,5 @@
 use Rattle.std.proofs.Common.{ℕ, ◌*◌, ◌<◌, ◌≤◌, List, map, length, ap, arith}
-use Rattle.std.specs.List.{AllByRecursion as All}
+use Rattle.std.specs.List.{AllByRecursion}
 use Rattle.std.proofs.ByRecursion.{All-map}
 use Rattle.std.proofs.lemmas.List.{length-map}
 use Rattle.scheme.specs.declared.types.Pair.{Pair}
@@ -10,7 +10,7 @@ use Rattle.text.proofs.Overwriting.{line_put, length_listed}
 use Rattle.text.proofs.Words.{word_short}
 use Rattle.text.proofs.putting.put_list_line.Goals as goal
 
-few : (half : Half) (card : List Pair) → All (λ pair. picked half pair < 100000) card → length (listed (map (picked half) card)) ≤ 6 * length card
+few : (half : Half) (card : List Pair) → AllByRecursion (λ pair. picked half pair < 100000) card → length (listed (map (picked half) card)) ≤ 6 * length card
 few half card small =
     let l = length_listed (map (picked half) card) (All-map (λ n. n < 100000) (picked half) card small) in omega (arith, length-map card (picked half))
 

@@ -1,5 +1,5 @@
 use Rattle.std.proofs.Common.{◌≡◌, ℕ, ◌-◌, ◌<◌, List, ◌∷◌, ◌++◌, map, length, get_or, take, drop, decimal, sym, ap, ◌∙◌, subst, arith, length-drop}
-use Rattle.std.specs.List.{AllByRecursion as All}
+use Rattle.std.specs.List.{AllByRecursion}
 use Rattle.std.proofs.lemmas.Fmt.{length-decimal-le}
 use Rattle.std.proofs.ByRecursion.{All-get_or, All-drop}
 use Rattle.std.proofs.lemmas.List.{take_rest, drop_more}
@@ -20,7 +20,7 @@ put-others-requires c =
     let small = All-get_or (λ pair. picked c.args.half pair < 100000) card 0 blank (omega arith) c.requires.1 in
     let few = length-decimal-le 5 c.pick.result (omega arith) (omega (arith, c.pick.ensures)) (omega (arith, c.pick.ensures)) in (
       omega (arith, ap length (take_rest card 1), length-drop 1 card, c.put-number-behind-first.ensures.place),
-      subst (All (λ pair. picked c.args.half pair < 100000)) (sym (take_rest card 1)) (All-drop (λ pair. picked c.args.half pair < 100000) 1 card c.requires.1),
+      subst (AllByRecursion (λ pair. picked c.args.half pair < 100000)) (sym (take_rest card 1)) (All-drop (λ pair. picked c.args.half pair < 100000) 1 card c.requires.1),
     )
 
 pub returns : goal.returns
