@@ -45,9 +45,10 @@ fn have_codes<F: Doublable>(key: &[u64], values: &[u64], tags: &[u64]) -> bool
 
 // What participant i holds for one place, by its key symbol, value coefficients and tag coefficients.
 fn deal_pair<F: Doublable>(symbol: u64, values: &[u64], tags: &[u64], i: u64) -> Pair
-    requires symbol_bound { (symbol < F.Field.codes.size) × (i < F.Field.codes.size) }
-    requires all { AllByRecursion (λ a. a < F.Field.codes.size) values.now }
-    requires all_2 { AllByRecursion (λ a. a < F.Field.codes.size * F.Field.codes.size) tags.now }
+    requires symbol_in { symbol < F.Field.codes.size }
+    requires i_in { i < F.Field.codes.size }
+    requires values_in { AllByRecursion (λ a. a < F.Field.codes.size) values.now }
+    requires tags_in { AllByRecursion (λ a. a < F.Field.codes.size * F.Field.codes.size) tags.now }
     ensures { result ≡ dealt_pair F.Field.codes F.Doublable.u F.Doublable.v (symbol ∷ values.now) tags.now i }
 {
     let x = element::<F>(i);
@@ -96,7 +97,8 @@ fn deal_share<F: Doublable>(
     share: &mut [Pair],
 )
     requires accepted { Accepted F.Field.codes figures.now key.now values.now tags.now }
-    requires i_bound { (i < F.Field.codes.size) × (length share.old ≡ figures.now.d) }
+    requires i_in { i < F.Field.codes.size }
+    requires share_len { length share.old ≡ figures.now.d }
     ensures { share.new ≡ dealt_share F.Field.codes F.Doublable.u F.Doublable.v figures.now (value_polynomial figures.now key.now values.now) (tag_polynomial figures.now tags.now) i }
 {
     for j in 0..figures.d {

@@ -1,4 +1,4 @@
-use Rattle.std.proofs.Common.{◌≡◌, length, get_or, take, refl, ap, ◌∙◌, arith, length-set}
+use Rattle.std.proofs.Common.{◌≡◌, get_or, take, refl, ap, ◌∙◌, arith, length-set}
 use Rattle.fields.specs.Elements.{elements}
 use Rattle.fields.specs.ElementsLemmas.{add_is, mul_is, neg_is}
 use Rattle.algebra.proofs.Coefficients.{tail_more, lin_more, lin_done}

@@ -12,7 +12,7 @@ use Rattle.scheme.proofs.dealing.write_shares.Goals as goal
 pub slice_bounds-share-end : goal.slice_bounds-share-end
 slice_bounds-share-end g c =
     let f = c.args.figures.now in
-    let room = c.requires.1 in
+    let room = c.requires.shares_len in
     let long = c.loop-i.auto.shares in
     let here : c.loop-i.i < f.n = omega arith in
     omega (arith, place_ends f.d c.loop-i.i f.n here)
@@ -20,7 +20,7 @@ slice_bounds-share-end g c =
 pub deal_share-requires : goal.deal_share-requires
 deal_share-requires g c =
     let f = c.args.figures.now in
-    let room = c.requires.1 in
+    let room = c.requires.shares_len in
     let long = c.loop-i.auto.shares in
     let here : c.loop-i.i < f.n = omega arith in
     let start = c.loop-i.i * f.d in
@@ -28,7 +28,11 @@ deal_share-requires g c =
     let large = g.met.F.Field.laws.on_codes.at_least_33 in
     let many = f.participants.1 in
     let width : start + f.d - start ≡ f.d = omega arith in
-    (c.requires.0, (omega arith, length-take-le (start + f.d - start) (drop start c.loop-i.shares) (simp length-drop (omega arith)) ∙ width))
+    record {
+      accepted = c.requires.accepted;
+      i_in = omega arith;
+      share_len = length-take-le (start + f.d - start) (drop start c.loop-i.shares) (simp length-drop (omega arith)) ∙ width;
+    }
 
 pub loop-i-preserved : goal.loop-i-preserved
 loop-i-preserved g c =
@@ -54,7 +58,7 @@ returns g c =
     let tags = c.args.tags.now in
     let buffer = c.args.shares.now in
     let share : ℕ → List Pair = dealt_share C u v f (value_polynomial f key values) (tag_polynomial f tags) in
-    let room = c.requires.1 in
+    let room = c.requires.shares_len in
     let all : c.loop-i.i ≡ f.n = omega arith in
     c.loop-i.invariant ∙ ap (λ n. flat_map share (range_with_len 1 n) ++ drop (n * f.d) buffer) all
     ∙ filled_all (flat_map share (range_with_len 1 f.n)) buffer (f.n * f.d) (omega arith)

@@ -13,4 +13,4 @@ returns g c = λ L.
     let difference = add_is L _ _ _ c.add.ensures ∙ ap (X.add c.args.y) (neg_is L _ _ c.neg.ensures ∙ ap X.neg (c.value-here.ensures L)) in
     let inverse = inv_is L _ _ c.inv.ensures ∙ ap X.inv (c.value-other.ensures L) in
     let by = mul_is L _ _ _ c.mul-c.ensures ∙ ap₂ X.mul difference inverse in
-    ap₂ (over X) (c.add_multiple_lem.ensures L ∙ ap (λ k. plus X (coefficients p.top) (scale X k (coefficients p.bottom))) by) (c.multiply_root.ensures L)
+    ap₂ (over X) (c.add_multiple.ensures L ∙ ap (λ k. plus X (coefficients p.top) (scale X k (coefficients p.bottom))) by) (c.multiply_root.ensures L)
