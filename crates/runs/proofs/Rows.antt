@@ -1,7 +1,7 @@
 -- The worked example on opening, over p251: five participants, threshold four, one altered card borne, one symbol. Key 7, value
 -- coefficients 1, 0, 2 and tag coefficients 5, 3.
 -- Assumes nothing.
-use Rattle.std.proofs.Common.{◌≡◌, ℕ, zero, suc, ◌+◌, ◌-◌, ◌<◌, ◌≤◌, Bool, true, false, cond, not, ◌&&◌, ◌||◌, eqb, leb, ◌⊎◌, List, [], ◌∷◌, ◌++◌, map, length, replicate, Some, None, Ok, Err, filter, sym, refl, ap, ◌∙◌, inl, inr, true≢false, arith, lit≤, length-append}
+use Rattle.std.proofs.Common.{◌≡◌, ℕ, zero, suc, ◌+◌, ◌-◌, ◌<◌, ◌≤◌, Bool, true, false, cond, not, ◌&&◌, ◌||◌, eqb, leb, ◌⊎◌, List, [], ◌∷◌, ◌++◌, map, length, replicate, None, Ok, Err, filter, sym, refl, ap, ◌∙◌, inl, inr, true≢false, arith, lit≤, length-append}
 use Rattle.std.specs.List.{AllByRecursion}
 use Rattle.std.proofs.lemmas.List.Elements.{filter-append}
 use Rattle.std.proofs.ByRecursion.{All-weaker}
@@ -14,7 +14,6 @@ use Rattle.fields.specs.P251Laws.{p251_doublable}
 use Rattle.scheme.specs.Questions.{every, all_codes}
 use Rattle.scheme.specs.Polynomial.{value_at_lem}
 use Rattle.scheme.specs.Fitting.{passes, fits, polynomials}
-use Rattle.scheme.specs.declared.types.Figures.{Figures}
 use Rattle.scheme.proofs.Asking.{all_from_codes}
 use Rattle.scheme.proofs.Enumerated.{CodesOf, kept_none, polynomials_are}
 use Rattle.runs.specs.Cards.{Card, Cards, lying, card_refusal}

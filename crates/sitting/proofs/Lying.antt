@@ -1,15 +1,15 @@
 -- The cards on a table after a write to it, and how many lie.
 -- Assumes nothing.
-use Rattle.std.proofs.Common.{◌≡◌, ℕ, zero, suc, ◌+◌, ◌-◌, ◌*◌, ◌<◌, ◌≤◌, Bool, true, false, cond, List, [], ◌∷◌, ◌++◌, map, length, get_or, take, drop, set, replicate, is_some, Some, None, count_by, Option, sym, refl, ap, ◌∙◌, ⊎_elim, arith, rules}
+use Rattle.std.proofs.Common.{◌≡◌, ℕ, zero, suc, ◌+◌, ◌-◌, ◌*◌, ◌<◌, ◌≤◌, Bool, true, false, cond, List, ◌∷◌, map, length, get_or, take, drop, set, replicate, is_some, Some, None, count_by, sym, refl, ap, ◌∙◌, ⊎_elim, arith, rules}
 use Rattle.std.specs.List.{range_with_len}
 use lib.Seq.{paste}
 use Rattle.std.proofs.lemmas.List.FromFn.{get_or-map-range_with_len, length-map-range_with_len}
-use Rattle.std.proofs.lemmas.List.{places, same_lists, get_or-set_same, get_or-set_other, length-set, get_or-replicate, length-replicate, get_or_past, drop_more}
+use Rattle.std.proofs.lemmas.List.{places, same_lists, get_or-set_same, get_or-set_other, length-set, get_or-replicate, length-replicate, drop_more}
 use Rattle.std.proofs.lemmas.List.Sums.{sum_by-cons}
-use Rattle.std.proofs.lemmas.Bool.{cases_lt, cases_eq}
+use Rattle.std.proofs.lemmas.Bool.{cases_eq}
 use Rattle.scheme.specs.declared.types.Figures.{Figures}
 use Rattle.scheme.specs.declared.types.Pair.{Pair}
-use Rattle.runs.specs.Cards.{Card, Cards, blank, lying_from, lying}
+use Rattle.runs.specs.Cards.{Card, Cards, lying_from, lying}
 use Rattle.sitting.specs.declared.types.Table.{Table}
 use Rattle.sitting.specs.Table.{first_place, card_at, cards_on, written, blank_table}
 

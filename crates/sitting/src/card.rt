@@ -23,7 +23,7 @@ impl CardFault {
 
 // Whether n is the code of an element.
 fn is_code<F: Field>(n: u64) -> bool
-    ensures { result ≡ nat_lt n codes.size }
+    ensures { result ≡ nat_lt n F.codes.size }
 {
     F::from_code(n).is_some()
 }

@@ -4,5 +4,5 @@ use Rattle.sitting.proofs.card.is_code.Goals as goal
 
 pub returns : goal.returns
 returns g c =
-    c.is-some.ensures
-    ∙ read_is g.F.Field.code g.F.Field.codes.size c.args.n g.met.F.Field.laws.code_below c.from-code.result c.from-code.ensures
+    c.is_some.ensures
+    ∙ read_is g.F.Field.code g.F.Field.codes.size c.args.n g.met.F.Field.laws.code_below c.from_code.result c.from_code.ensures

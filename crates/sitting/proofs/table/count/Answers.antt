@@ -1,11 +1,11 @@
-use Rattle.std.proofs.Common.{◌+◌, false, take, count_by, ap, ◌∙◌, arith}
+use Rattle.std.proofs.Common.{false, take, count_by, ap, ◌∙◌, arith}
 use Rattle.std.proofs.lemmas.List.{length-take-le, take_all}
 use Rattle.std.proofs.lemmas.List.Sums.{count_by-le-length, count_by_more_yes, count_by_more_no}
 use Rattle.sitting.proofs.table.count.Goals as goal
 use Rattle.sitting.proofs.table.count.Goals.{then-flag, else-flag}
 
-pub overflow-add-set : goal.overflow-add-set
-overflow-add-set c =
+pub overflow_add-set : goal.overflow_add-set
+overflow_add-set c =
     let i = c.loop-flag.flag-index in
     let flags = c.args.flags.now in
     omega (arith, count_by-le-length (λ b. b) (take i flags), length-take-le i flags (omega arith))

@@ -21,7 +21,7 @@ returns g c =
     let flags : length s.table.lying ≡ 32 = search rules in
     let wide : length s.table.places ≡ 2048 = search rules in
     record {
-      answer = settled_by C f s.table i c.clear.new.self (replicate 64 blank) false None c.lying-among.result c.clear.ensures (refl {a = None}) (omega arith) (omega arith) (omega arith) (omega arith) flags wide c.lying-among.ensures
+      answer = settled_by C f s.table i c.clear.new.self (replicate 64 blank) false None c.lying_among.result c.clear.ensures (refl {a = None}) (omega arith) (omega arith) (omega arith) (omega arith) flags wide c.lying_among.ensures
           ∙ withdrawn_by C f s.table i true c.if-not-self-number.false (omega arith) (omega arith);
       after = ap (with_table s) c.clear.ensures;
     }
