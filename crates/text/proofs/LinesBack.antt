@@ -1,6 +1,6 @@
 -- Lines that are written and read, and read and written.
 -- Assumes nothing.
-use Rattle.std.proofs.Common.{◌≡◌, ℕ, suc, ◌+◌, ◌<◌, ◌≤◌, Bool, true, false, cond, ◌&&◌, List, [], ◌∷◌, ◌++◌, length, take, drop, Some, None, Ok, Err, Option, Result, sym, refl, ap, ◌∙◌, subst, append_assoc, append-nil, one-add, arith}
+use Rattle.std.proofs.Common.{◌≡◌, ℕ, suc, ◌+◌, Bool, true, false, cond, List, [], ◌∷◌, ◌++◌, length, take, drop, Some, None, Ok, Err, Option, Result, sym, refl, ap, ◌∙◌, subst, append_assoc, one-add, arith}
 use Rattle.std.specs.List.{prefix_len}
 use Rattle.std.specs.Str.{bytes_eq}
 use Rattle.std.proofs.lemmas.Slice.Eq.{bytes_eq-Decides}
@@ -10,8 +10,6 @@ use Rattle.scheme.specs.Questions.{every}
 use Rattle.text.specs.Refusals.{first_fault, unless_faulty}
 use Rattle.text.proofs.Refused.{all_passed}
 use Rattle.text.specs.Lines.{key_word, content_of, in_content, is_content_lem, begins, line, lines, with_content, and_then, written_line, written}
-use Rattle.text.specs.declared.types.Content.{Content}
-use Rattle.text.specs.declared.types.Content.TheVariants.{Name, Number, Numbers, Piece}
 use Rattle.text.specs.declared.types.Key.{Key}
 use Rattle.text.specs.declared.types.Key.TheVariants.{Field, Participants, Threshold, Altered, Symbols, Card, Values, Tags, Secret, ValueCoefficients, TagCoefficients}
 

@@ -20,7 +20,7 @@ use Rattle.text.specs.declared.types.Key.{Key}
 use Rattle.text.specs.declared.types.Key.TheVariants.{Field, Participants, Threshold, Altered, Symbols, Card, Values, Tags}
 use Rattle.text.specs.declared.types.FieldName.{FieldName}
 use Rattle.text.specs.declared.types.FieldName.TheVariants.{Byte, P251}
-use Rattle.text.proofs.LinesBack.{Good, Goods, lines_read, unrefused}
+use Rattle.text.proofs.LinesBack.{Good, Goods, lines_read}
 use Rattle.text.proofs.NumbersBack.{decimal_digits, decimal_is_number, value_back, listed_is_list, numbers_back, listed_bytes}
 use Rattle.text.proofs.Overwriting.{length_listed}
 use Rattle.text.proofs.Writable.{Passed, passed, size_small}

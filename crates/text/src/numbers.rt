@@ -1,6 +1,6 @@
 // Numbers, and lists of numbers, as text.
 ghost use Rattle.std.specs.Prelude.{◌≡◌, ◌≤◌, true, length, take, drop};
-ghost use Rattle.std.specs.List.{prefix_len as leadingOf};
+ghost use Rattle.std.specs.List.{prefix_len};
 ghost use Rattle.std.specs.Str.{all_ascii_digits};
 ghost use Rattle.text.specs.Lines.{in_content};
 ghost use Rattle.text.specs.Numbers.{digits_value, is_list, is_number, numbers_in};
@@ -39,7 +39,7 @@ fn is_in(content: Content, b: u8) -> bool
 
 // The length of the longest run of such bytes that the text begins with.
 pub(crate) fn leading(content: Content, text: &[u8]) -> usize
-    ensures value { result ≡ leadingOf (in_content content) text.now }
+    ensures value { result ≡ prefix_len (in_content content) text.now }
     ensures bound { result ≤ length text.now }
 {
     for (i, b) in text.iter().enumerate() {
@@ -111,8 +111,8 @@ pub(crate) fn count_numbers(text: &[u8]) -> usize
 
 // Copies the numbers of a list into a buffer with a place for each.
 pub(crate) fn copy_numbers(text: &[u8], numbers: &mut [u64])
-    requires text_value { is_list text.now ≡ true }
-    requires text_len { length (numbers_in text.now) ≡ length numbers.old }
+    requires list { is_list text.now ≡ true }
+    requires room { length (numbers_in text.now) ≡ length numbers.old }
     ensures { numbers.new ≡ numbers_in text.now }
 {
     let mut rest = text;

@@ -87,8 +87,8 @@ fn put_next(buffer: &mut [u8], at: usize, n: u64) -> usize
 
 // Puts a comma and a number for each of the pairs, and answers the place behind them.
 fn put_others(buffer: &mut [u8], at: usize, half: Half, pairs: &[Pair]) -> usize
-    requires pairs_in_bounds { at + 6 * length pairs.now ≤ length buffer.old }
-    requires all { AllByRecursion (λ pair. picked half pair < 100000) pairs.now }
+    requires room { at + 6 * length pairs.now ≤ length buffer.old }
+    requires small { AllByRecursion (λ pair. picked half pair < 100000) pairs.now }
     ensures { Put buffer.old at (others (map (picked half) pairs.now)) result buffer.new }
 {
     let mut end = at;
@@ -100,8 +100,9 @@ fn put_others(buffer: &mut [u8], at: usize, half: Half, pairs: &[Pair]) -> usize
 
 // Puts the numbers of a card, separated by commas, and answers the place behind them.
 pub(crate) fn put_numbers(buffer: &mut [u8], at: usize, half: Half, card: &[Pair]) -> usize
-    requires in_bounds { (1 ≤ length card.now) × (at + 6 * length card.now ≤ length buffer.old) }
-    requires all { AllByRecursion (λ pair. picked half pair < 100000) card.now }
+    requires some { 1 ≤ length card.now }
+    requires room { at + 6 * length card.now ≤ length buffer.old }
+    requires small { AllByRecursion (λ pair. picked half pair < 100000) card.now }
     ensures { Put buffer.old at (listed (map (picked half) card.now)) result buffer.new }
 {
     let behind_first = put_number(buffer, at, pick(half, card[0]));
@@ -126,8 +127,9 @@ pub(crate) fn put_list_line(
     half: Half,
     card: &[Pair],
 ) -> usize
-    requires in_bounds { (1 ≤ length card.now) × (at + 6 * length card.now + 7 ≤ length buffer.old) }
-    requires all { AllByRecursion (λ pair. picked half pair < 100000) card.now }
+    requires some { 1 ≤ length card.now }
+    requires room { at + 6 * length card.now + 7 ≤ length buffer.old }
+    requires small { AllByRecursion (λ pair. picked half pair < 100000) card.now }
     ensures line { Put buffer.old at (written_line key (listed (map (picked half) card.now))) result buffer.new }
     ensures bound { result ≤ at + 6 * length card.now + 7 }
 {

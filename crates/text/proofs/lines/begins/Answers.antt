@@ -8,4 +8,4 @@ pub returns : goal.returns
 returns c =
     let front = c.args.front.now in
     let text = take (length front) c.args.text.now in
-    same_from_decides c.starts-with.result (bytes_eq front text) (slice_eq-Decides Decides-eqb front text c.starts-with.result c.starts-with.ensures.value) (bytes_eq-Decides front text)
+    same_from_decides c.starts_with.result (bytes_eq front text) (slice_eq-Decides Decides-eqb front text c.starts_with.result c.starts_with.ensures.value) (bytes_eq-Decides front text)

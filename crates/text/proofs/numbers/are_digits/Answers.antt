@@ -1,4 +1,4 @@
-use Rattle.std.proofs.Common.{◌≡◌, eqb, length, sym, ap, ◌∙◌}
+use Rattle.std.proofs.Common.{eqb, length, ap, ◌∙◌}
 use Rattle.text.proofs.Digits.{all_digits}
 use Rattle.text.proofs.numbers.are_digits.Goals as goal
 

@@ -1,5 +1,5 @@
-use Rattle.std.proofs.Common.{◌≡◌, ℕ, suc, ◌+◌, ◌-◌, ◌<◌, ◌≤◌, List, [], ◌∷◌, length, get_or, take, drop, set, sym, refl, ap, ◌∙◌, ⊎_elim, add-one, arith}
-use Rattle.std.proofs.lemmas.List.{take_all, length-map, length-set, get_or-map}
+use Rattle.std.proofs.Common.{◌<◌, length, take, drop, sym, refl, ap, ◌∙◌, add-one, arith}
+use Rattle.std.proofs.lemmas.List.{take_all, length-map, length-set}
 use Rattle.text.specs.Numbers.{pieces, is_number, numbers_in, digits_value}
 use Rattle.text.proofs.Pieces.{piece_at, piece_is, pieces_on, copied_more}
 use Rattle.text.proofs.numbers.copy_numbers.Goals as goal
@@ -7,10 +7,10 @@ use Rattle.text.proofs.numbers.copy_numbers.Goals as goal
 pub loop-i-init : goal.loop-i-init
 loop-i-init c =
     let text = c.args.text.now in
-    (refl, sym c.requires.1 ∙ length-map (pieces text) digits_value, λ _. refl)
+    (refl, sym c.requires.room ∙ length-map (pieces text) digits_value, λ _. refl)
 
 pub number-requires : goal.number-requires
-number-requires c = ap is_number (c.first.ensures ∙ ap (λ n. take n c.loop-i.rest.now) c.leading-end.ensures.value ∙ piece_at c.args.text.now c.loop-i.rest.now c.loop-i.i (omega arith) (c.loop-i.invariant.2 (omega arith))) ∙ piece_is c.args.text.now c.loop-i.i c.requires.0 (omega arith)
+number-requires c = ap is_number (c.first.ensures ∙ ap (λ n. take n c.loop-i.rest.now) c.leading-end.ensures.value ∙ piece_at c.args.text.now c.loop-i.rest.now c.loop-i.i (omega arith) (c.loop-i.invariant.2 (omega arith))) ∙ piece_is c.args.text.now c.loop-i.i c.requires.list (omega arith)
 
 pub loop-i-preserved : goal.loop-i-preserved
 loop-i-preserved c =

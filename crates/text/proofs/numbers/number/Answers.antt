@@ -1,12 +1,12 @@
-use Rattle.std.proofs.Common.{◌≡◌, ◌+◌, ◌-◌, ◌*◌, ◌^◌, ◌<◌, ◌≤◌, length, get_or, take, sym, ap, ◌∙◌, arith, pow_mono}
+use Rattle.std.proofs.Common.{◌+◌, ◌-◌, ◌*◌, sym, ap, ◌∙◌, arith}
 use Rattle.std.proofs.lemmas.List.{take_all}
 use Rattle.std.proofs.lemmas.List.Sums.{fold_more}
 use Rattle.text.specs.Numbers.{digits_value}
-use Rattle.text.proofs.Digits.{IsNumber, number_parts, digit_in, ten_more}
+use Rattle.text.proofs.Digits.{digit_in, ten_more}
 use Rattle.text.proofs.numbers.number.Goals as goal
 
-pub overflow-sub-b : goal.overflow-sub-b
-overflow-sub-b c = omega (arith, digit_in c.args.text.now c.loop-b.b-index c.requires c.loop-b-test.true)
+pub overflow_sub-b : goal.overflow_sub-b
+overflow_sub-b c = omega (arith, digit_in c.args.text.now c.loop-b.b-index c.requires c.loop-b-test.true)
 
 pub loop-b-preserved : goal.loop-b-preserved
 loop-b-preserved c =

@@ -1,4 +1,4 @@
-use Rattle.std.proofs.Common.{ℕ, ◌*◌, ◌<◌, ◌≤◌, List, map, length, ap, arith}
+use Rattle.std.proofs.Common.{◌*◌, ◌<◌, ◌≤◌, List, map, length, ap, arith}
 use Rattle.std.specs.List.{AllByRecursion}
 use Rattle.std.proofs.ByRecursion.{All-map}
 use Rattle.std.proofs.lemmas.List.{length-map}
@@ -16,10 +16,10 @@ few half card small =
 
 pub put-requires : goal.put-requires
 put-requires c =
-    omega (arith, few c.args.half c.args.card.now c.requires.1, c.put-numbers-behind-list.ensures.place, c.put-behind-key.ensures.place, ap length c.word.ensures, word_short c.args.key)
+    omega (arith, few c.args.half c.args.card.now c.requires.small, c.put_numbers-behind_list.ensures.place, c.put-behind_key.ensures.place, ap length c.word.ensures, word_short c.args.key)
 
 pub returns : goal.returns
 returns c = record {
-  line = line_put c.args.key c.word.ensures c.put-behind-key.ensures c.put-numbers-behind-list.ensures c.put.ensures (omega arith);
-  bound = omega (arith, few c.args.half c.args.card.now c.requires.1, c.put.ensures.place, c.put-numbers-behind-list.ensures.place, c.put-behind-key.ensures.place, ap length c.word.ensures, word_short c.args.key);
+  line = line_put c.args.key c.word.ensures c.put-behind_key.ensures c.put_numbers-behind_list.ensures c.put.ensures (omega arith);
+  bound = omega (arith, few c.args.half c.args.card.now c.requires.small, c.put.ensures.place, c.put_numbers-behind_list.ensures.place, c.put-behind_key.ensures.place, ap length c.word.ensures, word_short c.args.key);
 }

@@ -3,4 +3,4 @@ use Rattle.text.proofs.Overwriting.{put_next}
 use Rattle.text.proofs.putting.put_next.Goals as goal
 
 pub returns : goal.returns
-returns c = put_next c.put-behind-comma.ensures c.put-number.ensures (omega arith)
+returns c = put_next c.put-behind_comma.ensures c.put_number.ensures (omega arith)

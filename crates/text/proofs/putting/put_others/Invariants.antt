@@ -1,4 +1,4 @@
-use Rattle.std.proofs.Common.{◌+◌, ◌*◌, ◌≤◌, map, length, take}
+use Rattle.std.proofs.Common.{◌*◌, ◌≤◌, map, length, take}
 use Rattle.text.specs.Numbers.{others}
 use Rattle.text.specs.Writing.{Put, picked}
 use Rattle.text.proofs.putting.put_others.Given as goal

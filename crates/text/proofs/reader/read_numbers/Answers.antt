@@ -4,4 +4,4 @@ use Rattle.text.proofs.reader.read_numbers.Goals as goal
 
 pub returns : goal.returns
 returns c =
-    take_at c.copy-numbers.new.numbers _ c.args.d (ap length c.copy-numbers.ensures ∙ c.requires.1.0) ∙ c.copy-numbers.ensures
+    take_at c.copy_numbers.new.numbers _ c.args.d (ap length c.copy_numbers.ensures ∙ c.requires.1.0) ∙ c.copy_numbers.ensures

@@ -7,5 +7,5 @@ use Rattle.text.proofs.sheet.read_sheet.Goals as goal
 pub returns : goal.returns
 returns c =
     let text = c.args.text.now in
-    c.settle-sheet.ensures ∙ ap sheet_settled c.in-ok-take-lines.ensures.told
+    c.settle_sheet.ensures ∙ ap sheet_settled c.in_ok-take_lines.ensures.told
     ∙ sym (cond-true (leb (length text) 16384) (sheet_settled (lines 1 sheet_keys text)) (Err (51, 0)) (le-leb (length text) 16384 c.if-text-gt16384.false))

@@ -4,4 +4,4 @@ use Rattle.text.proofs.sheet.read_values.Goals as goal
 
 pub returns : goal.returns
 returns c =
-    take_at c.copy-optional.new.numbers _ c.args.count (ap length c.copy-optional.ensures ∙ c.requires.1.0) ∙ c.copy-optional.ensures
+    take_at c.copy_optional.new.numbers _ c.args.count (ap length c.copy_optional.ensures ∙ c.requires.1.0) ∙ c.copy_optional.ensures
