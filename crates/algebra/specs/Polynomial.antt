@@ -46,7 +46,7 @@ module _ {K : Type 0} (F : Field K) where
   lin a b [] = b ∷ []
   lin a b (c ∷ f) = (b ⊕ ⊖ (a ⊗ c)) ∷ lin a c f
 
-  -- times-root a f is (X - a)·f: it has the root a and one coefficient more than f, but the empty list stays empty
+  -- times_root a f is (X - a)·f: it has the root a and one coefficient more than f, but the empty list stays empty
   abbrev pub times_root : K → List K → List K
   times_root a [] = []
   times_root a (c ∷ f) = lin a 𝟘 (c ∷ f)

@@ -1,3 +1,4 @@
+-- What the law on memory of the doubled field rests on: how much two elements take, with what alignment adds.
 use Rattle.std.specs.Prelude.{ℕ, ◌+◌, ◌-◌, ◌*◌, ◌%◌, ◌≤◌, max}
 use Rattle.std.proofs.Math.Nat.{mod-le, max-le}
 use Rattle.std.proofs.Common.{mul-le-mul, arith}

@@ -1,6 +1,6 @@
 // The field `byte`: the arithmetic of bytes of FIPS 197, section 4.
 ghost use Rattle.std.specs.Prelude.{◌≡◌, ◌<◌};
-ghost use Rattle.fields.specs.Byte.{byte as byteCodes, product, byte};
+ghost use Rattle.fields.specs.Byte.{byte as byteCodes, product};
 ghost use Rattle.fields.specs.Inverse.{InverseTable};
 ghost use Rattle.fields.specs.ByteLaws.{byte_laws, byte_doublable};
 ghost use Rattle.fields.specs.SymbolCodes.{symbol_laws};
@@ -19,7 +19,7 @@ impl Field for Byte {
 
     ghost code = { λ x. x.code };
 
-    ghost laws = { symbol_laws byte byte_laws };
+    ghost laws = { symbol_laws byteCodes byte_laws };
 
     ghost room = { Prim.search rules };
 

@@ -5,11 +5,9 @@ ghost use Rattle.std.proofs.Common.{sym, ◌∙◌, ap, ap₂, mod-lt, arith};
 ghost use Rattle.std.proofs.Math.Nat.{max-le};
 ghost use Rattle.fields.specs.DoubledLaws.{doubled_laws, join_below, join_low, join_high, join_parts, high_below};
 ghost use Rattle.fields.specs.Elements.{zero_below};
-ghost use Rattle.fields.specs.DoubledFieldLemmas.{pair, pair_le};
+ghost use Rattle.fields.specs.DoubledFieldLemmas.{pair, pair_le, square};
 ghost use prog.Memory;
-ghost use prog.Memory.{align};
 ghost use denote.Param.{layout};
-ghost use Rattle.fields.specs.DoubledFieldLemmas;
 
 use crate::field::{Doublable, Field};
 
@@ -30,7 +28,7 @@ impl<F: Doublable> Field for Doubled<F> {
 
     ghost code = { λ x. join F.Field.codes.size (F.Field.code x.low) (F.Field.code x.high) };
 
-    // ---- memory: two elements with what alignment adds
+    // a code's remainder and quotient by p are the codes of the two parts
     ghost laws = { let F' = F.Field in
         let L = F.Field.laws in
         let p = F'.codes.size in
@@ -52,12 +50,13 @@ impl<F: Doublable> Field for Doubled<F> {
               (pair a.0 b.0, ap₂ (join p) a.1 b.1 ∙ join_parts p n);
         } };
 
+    // two elements with what alignment adds
     ghost room = { let m = F.Field.room in
         let n = F.Field.codes.size in
-        let a = align (layout F.Elem.row) in
+        let a = Memory.align (layout F.Elem.row) in
         let s = Memory.size (layout F.Elem.row) in
         let low = F.Field.laws.on_codes.at_least_33 in
-        (omega (arith, pair_le a s m.1, DoubledFieldLemmas.square n s low m.0), max-le m.1 (max-le m.1 (omega arith))) };
+        (omega (arith, pair_le a s m.1, square n s low m.0), max-le m.1 (max-le m.1 (omega arith))) };
 
     fn size() -> u64 {
         F::size() * F::size()

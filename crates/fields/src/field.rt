@@ -42,6 +42,7 @@ pub trait Field {
     fn from_code(n: u64) -> Option<Self::Elem>
         ensures { MatchOption result (codes.size ≤ n) (λ x. code x ≡ n) };
 
+    // what each field proves: the laws of a field on codes, and that codes and elements are in bijection
     ghost laws: { FieldLaws Self.Elem codes code };
 
     // an element is small in memory: it takes no more bytes than the field has elements
@@ -61,5 +62,6 @@ pub trait Doublable: Field {
     fn v() -> Self::Elem
         ensures { Self.Field.code result ≡ v };
 
+    // what each such field proves
     ghost doublable: { DoublableLaws Self.Field.codes u v };
 }

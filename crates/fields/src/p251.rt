@@ -1,6 +1,6 @@
 // The field `p251`: the whole numbers modulo 251.
 ghost use Rattle.fields.specs.Inverse.{InverseTable};
-ghost use Rattle.fields.specs.P251.{p251 as p251Codes, p251};
+ghost use Rattle.fields.specs.P251.{p251 as p251Codes};
 ghost use Rattle.fields.specs.P251Laws.{p251_laws, p251_doublable};
 ghost use Rattle.fields.specs.SymbolCodes.{symbol_laws};
 ghost use Rattle.std.proofs.Common.{rules};
@@ -18,7 +18,7 @@ impl Field for P251 {
 
     ghost code = { λ x. x.code };
 
-    ghost laws = { symbol_laws p251 p251_laws };
+    ghost laws = { symbol_laws p251Codes p251_laws };
 
     ghost room = { Prim.search rules };
 
