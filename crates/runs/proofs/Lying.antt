@@ -129,6 +129,8 @@ lying_until_withdrawn_lem C u v f run = record {
   laid_down_lies = λ i card r. lies_lying C f u v run i card (laid_down C u v f i card r.0 run r.1 r.2);
   lies_laid_down = λ i card k. was_laid_down C u v f i card run (lying_lies C f u v run (i, card) k);
   by_the_calls = table_lies C f u v run;
+  present_by_the_calls = present_same C u v f run;
+  withdraw_by_the_calls = withdraw_same C u v f run;
 }
 
 pub one_card_each_lem : OneCardEach

@@ -19,7 +19,7 @@ Card = List Pair
 abbrev pub Cards : Type 0
 Cards = List (Option Card)
 
--- the card of participant i that lies
+-- the card of participant i that lies, for i from 1 on
 abbrev pub card_of : Cards → ℕ → Option Card
 card_of cards i = slice_index_or cards (i - 1) None
 

@@ -1,6 +1,7 @@
 -- The law over runs: which cards an opening names and what key it gives, whatever t participants do together. They know their own
 -- cards, and all else that they can tell of the tag polynomials is that these deal them their cards. So the law counts the choices of
--- tag polynomials that do: under all but a few of them every opening of a run names exactly the altered cards.
+-- tag polynomials that do: under all but at most w·q^(d - 1) of these q^d, every opening of a run that passes its first three questions
+-- names exactly the altered cards. Here w is how many altered cards are accepted; where it is q or more, this says nothing.
 -- A script is a run of moves, and becomes a run of calls once tag polynomials are chosen: the group's cards stay, and the others'
 -- cards as dealt follow the choice.
 -- Assumes nothing.

@@ -6,7 +6,7 @@ use Rattle.algebra.specs.Count.{In}
 use Rattle.fields.specs.Laws.{Codes}
 use Rattle.scheme.specs.declared.types.Figures.{Figures}
 use Rattle.runs.specs.Cards.{Card, card_of, lying, is_participant, RightTable}
-use Rattle.runs.specs.Runs.{Run, start, ◌then◌, Call, present, withdraw, seal, reopen, opens, Answer, counts, silent, shows, done, table, lies, numbers_lying}
+use Rattle.runs.specs.Runs.{Run, start, ◌then◌, Call, present, withdraw, seal, reopen, opens, Answer, counts, silent, shows, done, table, present_accepted, withdraw_accepted, lies, numbers_lying}
 
 -- an answer by which a present or a withdraw is accepted
 abbrev pub accepts : Answer → Bool
@@ -49,6 +49,9 @@ module _ (C : Codes) (u v : ℕ) (f : Figures) where
     pub lies_laid_down : (i : ℕ) (card : Card) → In (i, card) (lying (table C u v f run)) → LaidDown run i card
     -- and `lies` says the same
     pub by_the_calls : (i : ℕ) → is_participant C f i ≡ true → card_of (table C u v f run) i ≡ lies C f run i
+    -- a call's own answer accepts it exactly where it passes its questions, told by the calls before it
+    pub present_by_the_calls : (i : ℕ) (card : Card) → accepted run (present i card) ≡ present_accepted C f (lies C f run i) i card
+    pub withdraw_by_the_calls : (i : ℕ) → accepted run (withdraw i) ≡ withdraw_accepted C f (lies C f run i) i
 
   -- at most one card of each number
   pub record OneEach (run : Run Call) : Type 0 where

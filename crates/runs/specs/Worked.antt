@@ -36,9 +36,10 @@ first_four value tag = Some (card 10 788) ∷ Some (card value tag) ∷ Some (ca
 abbrev pub two_altered : Cards
 two_altered = Some (card 10 789) ∷ Some (card 25 1587) ∷ Some (card 64 2456) ∷ Some (card 139 3183) ∷ None ∷ []
 
--- what a names buffer of six holds before a call, and all but its first after one that names at most one card
+-- what a names buffer of six holds before a call
 abbrev pub nines : List ℕ
 nines = 9 ∷ 9 ∷ 9 ∷ 9 ∷ 9 ∷ 9 ∷ []
 
+-- and all but its first after a call that names at most one card
 abbrev pub zeros : List ℕ
 zeros = 0 ∷ 0 ∷ 0 ∷ 0 ∷ 0 ∷ []

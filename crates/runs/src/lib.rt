@@ -1,13 +1,15 @@
-// Mathematics of a sitting, with no call of the product: what each call answers, by definitions that the contracts of the calls
-// cite, and theorems on every run of calls. A theorem is the contract of a function that does nothing.
+// Mathematics of a sitting, with no call of the product: what each call answers, by definitions, and theorems on every run of calls. The
+// contracts of present, withdraw, seal and reopen cite these definitions; the call `open`, which is to cite its own, is to come. A theorem
+// is the contract of a function that does nothing.
 #![tactic(auto)]
 
 ghost use Rattle.runs.specs.Law.{LawApplies, LawOverRuns};
 ghost use Rattle.runs.specs.Lying.{LyingByAcceptedCalls, LyingUntilWithdrawn, OneCardEach};
 ghost use Rattle.runs.specs.Openings.{DealtCardsOpen, FittingSettles};
 
-// The law over runs: whatever t participants do together, all but a few choices of tag polynomials let every opening name exactly
-// the altered cards and give the key.
+// The law over runs: whatever t participants do together, all but at most w·q^(d − 1) of the q^d choices of tag polynomials that they
+// cannot tell apart let every opening that passes its first three questions name exactly the altered cards, and give the key where k
+// unaltered cards lie. Here w counts the accepted presents of altered cards in the script.
 pub fn law_over_runs() -> u8
     ensures { LawOverRuns }
 {

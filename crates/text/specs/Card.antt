@@ -31,7 +31,7 @@ abbrev pub v_of : FieldName → ℕ
 v_of Byte = 0x20
 v_of P251 = 250
 
--- the field that is named
+-- the field that is named, where the line has settled that the name is one of the two
 abbrev pub field_named_lem : List ℕ → FieldName
 field_named_lem name = cond (bytes_eq name (field_name Byte)) Byte P251
 
