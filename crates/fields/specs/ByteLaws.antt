@@ -5,6 +5,7 @@ use Rattle.std.specs.Prelude.{◌≡◌, ℕ, zero, suc, ◌+◌, ◌-◌, ◌*�
 use Rattle.std.proofs.Common.{sym, ◌∙◌, ap, ap₂, subst, inl, inr, ⊎_elim, le_of_suc-le-suc, not-suc-le-zero, mod-lt, div-add-mod', zero-mul, one-mul, zero-add, add-zero, div-lt_iff_lt-mul, arith, pow_pos, lit≤}
 use Rattle.std.proofs.Math.Nat.{pow-succ'}
 use Rattle.std.proofs.lemmas.Nat.{xor_lt, xor_comm, xor_shr, xor_mod, xor_block}
+use lib.Bits.{bit_and, and_mask}
 use Rattle.std.specs.Int.Bits.{xor_assoc, xor_self, xor_zero_r, xor_shifted}
 use Rattle.std.proofs.lemmas.Bool.{cond-false, ne_eqb}
 use Rattle.fields.specs.Byte.{carryless, remainder, product, byte}
@@ -63,7 +64,7 @@ xor_swap a b c d =
 sum_linear : (f g : ℕ → ℕ) → Linear f → Linear g → Linear (λ a. bit_xor (f a) (g a))
 sum_linear f g lf lg a b = ap₂ bit_xor (lf a b) (lg a b) ∙ xor_swap (f a) (f b) (g a) (g b)
 
-pub bit : (n : ℕ) → n % 2 < 2
+bit : (n : ℕ) → n % 2 < 2
 bit n = mod-lt n (omega arith)
 
 -- a bit times a number, linear in both
@@ -189,12 +190,12 @@ xtime_linear =
     sum_linear (λ a. a * 2 % 256) (λ a. a / 128 % 2 * 27)
     (λ a b. ap (λ t. t % 256) (double_linear a b) ∙ xor_mod (a * 2) (b * 2) 8) (bit_of_linear 7 27)
 
-pub bit_below : (s a : ℕ) → s < 2 → a < 256 → s * a < 256
+bit_below : (s a : ℕ) → s < 2 → a < 256 → s * a < 256
 bit_below zero a h l = subst (λ (t : ℕ). t < 256) (sym (zero-mul a)) (omega arith)
 bit_below (suc zero) a h l = subst (λ (t : ℕ). t < 256) (sym (one-mul a)) l
 bit_below (suc (suc s)) a h l = absurd (not-suc-le-zero (le_of_suc-le-suc (le_of_suc-le-suc h)))
 
-pub xtime_below : (a : ℕ) → xtime a < 256
+xtime_below : (a : ℕ) → xtime a < 256
 xtime_below a =
     xor_lt 8 (a * 2 % 256) (a / 128 % 2 * 27) (mod-lt (a * 2) (omega arith)) (bit_below (a / 128 % 2) 27 (bit (a / 128)) (omega arith))
 
@@ -209,10 +210,18 @@ reduced_each_turn =
     bilinear_same (over_bits xtime 8) product (over_bits_left xtime xtime_linear 8) (over_bits_right xtime 8) product_left product_right
     (pairs (over_bits xtime 8) product tt)
 
-pub turn : (k s a b : ℕ) → k < 8 → bit_xor (bit_xor s (b % 2 * a)) (over_bits xtime (8 - (k + 1)) (xtime a) (b / 2)) ≡ bit_xor s (over_bits xtime (8 - k) a b)
-turn k s a b h =
-    xor_assoc s (b % 2 * a) (over_bits xtime (8 - (k + 1)) (xtime a) (b / 2)) ∙ ap (λ t. bit_xor s (over_bits xtime t a b)) (left_is k h)
+-- one turn of the program's loop
+pub turn : (k s a b : ℕ) → k < 8 → a < 256
+    → bit_xor (bit_xor s (bit_and b 1 * a)) (over_bits xtime (8 - (k + 1)) (bit_xor (a * 2 % 256) (a / 128 * 27)) (b / 2))
+    ≡ bit_xor s (over_bits xtime (8 - k) a b)
+turn k s a b h ha =
+    ap₂ (λ (l p : ℕ). bit_xor (bit_xor s (l * a)) (over_bits xtime (8 - (k + 1)) p (b / 2))) (and_mask b 1)
+    (ap (λ t. bit_xor (a * 2 % 256) (t * 27)) (top a ha))
+    ∙ xor_assoc s (b % 2 * a) (over_bits xtime (8 - (k + 1)) (xtime a) (b / 2)) ∙ ap (λ t. bit_xor s (over_bits xtime t a b)) (left_is k h)
   where
+    top : (a : ℕ) → a < 256 → a / 128 ≡ a / 128 % 2
+    top a h = omega arith
+
     left_is : (k : ℕ) → k < 8 → suc (8 - (k + 1)) ≡ 8 - k
     left_is k h = omega arith
 

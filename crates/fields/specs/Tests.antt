@@ -1,7 +1,7 @@
 -- Tests that the prover computes at every number below a bound.
 -- Assumes nothing.
-use Rattle.std.specs.Prelude.{◌≡◌, ℕ, zero, suc, ◌<◌, Bool, true, false, cond, not, T, ◌==◌, ◌≢◌, nat_eq, nat_lt}
-use Rattle.std.proofs.Common.{sym, subst, ⊎_elim, eq-or-lt_of_le, le_of_suc-le-suc, not-suc-le-zero, eqb→eq, ltb→lt, T_not}
+use Rattle.std.specs.Prelude.{◌≡◌, ℕ, zero, suc, ◌<◌, Bool, true, false, cond, not, T, ◌==◌, ◌≢◌, nat_eq}
+use Rattle.std.proofs.Common.{sym, subst, ⊎_elim, eq-or-lt_of_le, le_of_suc-le-suc, not-suc-le-zero, eqb→eq, T_not}
 use Rattle.std.proofs.Math.Dec.{eqb_refl}
 
 -- the test passes at each number below n
@@ -33,7 +33,3 @@ equal_below f g n t k h = eqb→eq (f k) (g k) (at_each (λ k. nat_eq (f k) (g k
 pub apart_below : (f g : ℕ → ℕ) (n : ℕ) → T (all_below n (λ k. not (f k == g k))) → (k : ℕ) → k < n → f k ≢ g k
 apart_below f g n t k h e =
     T_not (f k == g k) (at_each (λ k. not (f k == g k)) n t k h) (subst (λ (m : ℕ). T (f k == m)) e (eqb_refl (f k)))
-
--- f stays under m below n
-pub under_below : (f : ℕ → ℕ) (m n : ℕ) → T (all_below n (λ k. nat_lt (f k) m)) → (k : ℕ) → k < n → f k < m
-under_below f m n t k h = ltb→lt (f k) m (at_each (λ k. nat_lt (f k) m) n t k h)

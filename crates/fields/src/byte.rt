@@ -1,7 +1,6 @@
 // The field `byte`: the arithmetic of bytes of FIPS 197, section 4.
 ghost use Rattle.std.specs.Prelude.{◌≡◌, ◌<◌};
 ghost use Rattle.fields.specs.Byte.{byte as byteCodes, product};
-ghost use Rattle.fields.specs.Inverse.{InverseTable};
 ghost use Rattle.fields.specs.ByteLaws.{byte_laws, byte_doublable};
 ghost use Rattle.fields.specs.SymbolCodes.{symbol_laws};
 ghost use Rattle.std.proofs.Common.{rules};
@@ -10,6 +9,7 @@ use crate::field::{Doublable, Field};
 use crate::inverses;
 use crate::symbol::Symbol;
 
+// The name of the field; its elements are of the type `Symbol<256>`.
 pub struct Byte;
 
 impl Field for Byte {
@@ -27,20 +27,14 @@ impl Field for Byte {
         256
     }
 
-    fn zero() -> Symbol<256> {
-        Symbol { code: 0 }
-    }
-
-    fn one() -> Symbol<256> {
-        Symbol { code: 1 }
-    }
-
+    // Polynomials over two elements are added bit by bit, without carry.
     fn add(a: Symbol<256>, b: Symbol<256>) -> Symbol<256> {
         Symbol {
             code: a.code ^ b.code,
         }
     }
 
+    // The sum of a byte with itself is zero.
     fn neg(a: Symbol<256>) -> Symbol<256> {
         a
     }
@@ -53,7 +47,7 @@ impl Field for Byte {
 
     fn inv(a: Symbol<256>) -> Symbol<256> {
         Symbol {
-            code: inverse_table()[a.code as usize],
+            code: inverses::BYTE[a.code as usize],
         }
     }
 
@@ -62,12 +56,13 @@ impl Field for Byte {
     }
 
     fn from_code(n: u64) -> Option<Symbol<256>> {
-        Symbol::<256>::read(n)
+        Symbol::read(n)
     }
 }
 
 // The product of two bytes. It goes through all eight bits of b whatever they are: no table, and no branch on an operand,
 // so that its time tells nothing of a key.
+#[tactic(auto, using(crate::specs::ByteLaws::reduced_each_turn, crate::specs::ByteLaws::turn, crate::specs::ByteLaws::ended))]
 fn multiply(a: u8, b: u8) -> u8
     ensures { result ≡ product a b }
 {
@@ -82,12 +77,6 @@ fn multiply(a: u8, b: u8) -> u8
     sum
 }
 
-fn inverse_table() -> &'static [u8; 256]
-    ensures { InverseTable byteCodes result.now }
-{
-    &inverses::BYTE
-}
-
 impl Doublable for Byte {
     ghost u = { 1 };
 
@@ -96,7 +85,7 @@ impl Doublable for Byte {
     ghost doublable = { byte_doublable };
 
     fn u() -> Symbol<256> {
-        <Byte as Field>::one()
+        Self::one()
     }
 
     fn v() -> Symbol<256> {

@@ -14,27 +14,41 @@ pub trait Field {
     // the code of an element
     ghost code: { Self.Elem → ℕ };
 
+    // How many elements there are.
     fn size() -> u64
         ensures { result ≡ codes.size };
 
+    // The element with the code 0.
     fn zero() -> Self::Elem
-        ensures { code result ≡ 0 };
+        ensures { code result ≡ 0 }
+    {
+        Self::from_code(0).unwrap()
+    }
 
+    // The element with the code 1.
     fn one() -> Self::Elem
-        ensures { code result ≡ 1 };
+        ensures { code result ≡ 1 }
+    {
+        Self::from_code(1).unwrap()
+    }
 
+    // The sum of two elements.
     fn add(a: Self::Elem, b: Self::Elem) -> Self::Elem
         ensures { code result ≡ codes.sum (code a) (code b) };
 
+    // The element whose sum with a is zero.
     fn neg(a: Self::Elem) -> Self::Elem
         ensures { code result ≡ codes.negative (code a) };
 
+    // The product of two elements.
     fn mul(a: Self::Elem, b: Self::Elem) -> Self::Elem
         ensures { code result ≡ codes.product (code a) (code b) };
 
+    // The element whose product with a is one; the inverse of zero is zero.
     fn inv(a: Self::Elem) -> Self::Elem
         ensures { code result ≡ codes.inverse (code a) };
 
+    // The code of an element.
     fn to_code(a: Self::Elem) -> u64
         ensures { result ≡ code a };
 
@@ -56,9 +70,11 @@ pub trait Doublable: Field {
 
     ghost v: { ℕ };
 
+    // The factor of x.
     fn u() -> Self::Elem
         ensures { Self.Field.code result ≡ u };
 
+    // The constant.
     fn v() -> Self::Elem
         ensures { Self.Field.code result ≡ v };
 

@@ -1,5 +1,4 @@
 // The field `p251`: the whole numbers modulo 251.
-ghost use Rattle.fields.specs.Inverse.{InverseTable};
 ghost use Rattle.fields.specs.P251.{p251 as p251Codes};
 ghost use Rattle.fields.specs.P251Laws.{p251_laws, p251_doublable};
 ghost use Rattle.fields.specs.SymbolCodes.{symbol_laws};
@@ -9,6 +8,7 @@ use crate::field::{Doublable, Field};
 use crate::inverses;
 use crate::symbol::Symbol;
 
+// The name of the field; its elements are of the type `Symbol<251>`.
 pub struct P251;
 
 impl Field for P251 {
@@ -24,14 +24,6 @@ impl Field for P251 {
 
     fn size() -> u64 {
         251
-    }
-
-    fn zero() -> Symbol<251> {
-        Symbol { code: 0 }
-    }
-
-    fn one() -> Symbol<251> {
-        Symbol { code: 1 }
     }
 
     fn add(a: Symbol<251>, b: Symbol<251>) -> Symbol<251> {
@@ -54,7 +46,7 @@ impl Field for P251 {
 
     fn inv(a: Symbol<251>) -> Symbol<251> {
         Symbol {
-            code: inverse_table()[a.code as usize],
+            code: inverses::P251[a.code as usize],
         }
     }
 
@@ -63,14 +55,8 @@ impl Field for P251 {
     }
 
     fn from_code(n: u64) -> Option<Symbol<251>> {
-        Symbol::<251>::read(n)
+        Symbol::read(n)
     }
-}
-
-fn inverse_table() -> &'static [u8; 251]
-    ensures { InverseTable p251Codes result.now }
-{
-    &inverses::P251
 }
 
 impl Doublable for P251 {
@@ -81,7 +67,7 @@ impl Doublable for P251 {
     ghost doublable = { p251_doublable };
 
     fn u() -> Symbol<251> {
-        <P251 as Field>::zero()
+        Self::zero()
     }
 
     fn v() -> Symbol<251> {

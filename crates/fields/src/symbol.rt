@@ -1,7 +1,7 @@
 // An element of a field of at most 256 elements, held as its code in one byte.
 ghost use Rattle.std.specs.Prelude.{◌≡◌, ◌<◌, ◌≤◌, MatchOption};
 
-#[derive(Clone, Copy)]
+#[derive(Clone, Copy, Debug, PartialEq, Eq)]
 pub struct Symbol<const P: u64> {
     pub(crate) code: u8,
     ghost below: { code < P },
@@ -13,6 +13,7 @@ impl<const P: u64> Symbol<P> {
         requires { P ≤ 256 }
         ensures { MatchOption result (P ≤ n) (λ x. x.code ≡ n) }
     {
+        // one test of n; `u8::try_from(n)` would be a second one
         if n < P {
             Some(Symbol { code: n as u8 })
         } else {
