@@ -1,5 +1,5 @@
--- Counting: what stands in a list, how many things have a property after a bijection, how many pairs and tuples have one, and that
--- there is only one such number.
+-- Counting: what stands in a list, how many things have a property after a bijection, and how many pairs and tuples have
+-- one.
 -- Assumes nothing.
 use Rattle.std.proofs.Common.{◌≡◌, ℕ, suc, ◌+◌, ◌*◌, ◌^◌, ◌≤◌, Bool, true, false, cond, List, [], ◌∷◌, ◌++◌, map, length, sym, refl, ap, ◌∙◌, subst, ap₂, inl, inr, one-mul, zero-add, one-add, arith, length-append}
 use mathlib.Core.List.{head-eq_of_cons-eq, tail-eq_of_cons-eq}
@@ -200,10 +200,3 @@ at_most (a ∷ l) r d h =
     let t = take_out r a h.0 in
     let k = at_most l t.0 d.1 (all_from_in l (λ b m. t.2 b (all_in _ l b d.0 m) (all_in _ l b h.1 m))) in
     omega (arith, t.1)
-
--- there is only one number of things that have a property
-pub exactly_same : {A : Type 0} {m n : ℕ} {P : A → Type 0} → Exactly m P → Exactly n P → m ≡ n
-exactly_same x y =
-    let a = at_most x.list y.list x.apart (all_from_in x.list (λ b k. y.complete b (all_in _ x.list b x.sound k))) in
-    let b = at_most y.list x.list y.apart (all_from_in y.list (λ b k. x.complete b (all_in _ y.list b y.sound k))) in
-    omega (arith, x.count, y.count)

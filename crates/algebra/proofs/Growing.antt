@@ -1,4 +1,4 @@
--- The offer of a point in each of its three cases, and how many coefficients the bottom of a collected ratio has at most.
+-- The offer of a point: what it leaves where the abscissa is a root and where the point is taken, and how many coefficients the bottom of a collected ratio has at most.
 -- Assumes nothing.
 use Rattle.std.proofs.Common.{◌≡◌, ℕ, suc, ◌<◌, ◌≤◌, Bool, true, false, cond, not, T, leb, List, [], ◌∷◌, length, refl, arith, leb→le}
 use lib.Dec.{nleb→lt}
@@ -8,14 +8,6 @@ use Rattle.algebra.specs.Decoder.{Ratio, extended, unless, offered, collected}
 use Rattle.algebra.proofs.Polynomials.{times_root_within}
 
 module _ {K : Type 0} (X : Field K) (f : List K) (t : ℕ) (p : Ratio X) (x y : K) where
-  -- t + 1 points are taken already
-  pub offer_full : t < length p.top → offered X f t p x y ≡ p
-  offer_full l = go (leb (length p.top) t) (leb→le (length p.top) t)
-    where
-      go : (b : Bool) → (T b → length p.top ≤ t) → cond b (unless X (X.same (eval X f x) X.zero) p (extended X p x y)) p ≡ p
-      go false h = refl
-      go true h = absurd (omega (arith, h tt))
-
   -- the abscissa is a root of f
   pub offer_zero : eval X f x ≡ X.zero → offered X f t p x y ≡ p
   offer_zero e = go (leb (length p.top) t) (X.same (eval X f x) X.zero)
