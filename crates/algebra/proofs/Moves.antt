@@ -28,46 +28,21 @@ module _ {K : Type 0} (X : Field K) (x y : K) (t : ℕ) (s : State X) where
 
   -- the first discrepancy is zero
   pub step_a : da ≡ 𝟘 → next ≡ record { first = s.first; second = raise X x s.second }
-  step_a h = go (same da 𝟘)
-    where
-      go : (e : Dec (da ≡ 𝟘)) → move X s x da db e (same db 𝟘) test ≡ record { first = s.first; second = raise X x s.second }
-      go (yes e) = refl
-      go (no n) = absurd (n h)
+  step_a h = grind arith
 
   -- only the second discrepancy is zero
   pub step_b : (da ≡ 𝟘 → ⊥) → db ≡ 𝟘 → next ≡ record { first = raise X x s.first; second = s.second }
-  step_b k h = go (same da 𝟘) (same db 𝟘)
-    where
-      go : (e : Dec (da ≡ 𝟘)) (f : Dec (db ≡ 𝟘)) → move X s x da db e f test ≡ record { first = raise X x s.first; second = s.second }
-      go (yes e) f = absurd (k e)
-      go (no n) (yes f) = refl
-      go (no n) (no m) = absurd (m h)
+  step_b k h = grind arith
 
   -- neither is zero, and the first ratio is raised
   pub step_less : (da ≡ 𝟘 → ⊥) → (db ≡ 𝟘 → ⊥) → length s.first.top < length s.second.bottom + t
       → next ≡ record { first = raise X x s.first; second = add_multiple_lem X s.second (⊖ (db ⊗ inv da)) s.first }
-  step_less k h l = go (same da 𝟘) (same db 𝟘) test (nltb→le (length s.first.top) (length s.second.bottom + t))
-    where
-      go : (e : Dec (da ≡ 𝟘)) (f : Dec (db ≡ 𝟘)) (b : Bool) → (T (not b) → length s.second.bottom + t ≤ length s.first.top)
-          → move X s x da db e f b
-          ≡ record { first = raise X x s.first; second = add_multiple_lem X s.second (⊖ (db ⊗ inv da)) s.first }
-      go (yes e) f b ge = absurd (k e)
-      go (no n) (yes f) b ge = absurd (h f)
-      go (no n) (no m) true ge = refl
-      go (no n) (no m) false ge = absurd (omega (arith, ge tt))
+  step_less k h l = grind arith
 
   -- neither is zero, and the second ratio is raised
   pub step_more : (da ≡ 𝟘 → ⊥) → (db ≡ 𝟘 → ⊥) → length s.second.bottom + t ≤ length s.first.top
       → next ≡ record { first = add_multiple_lem X s.first (⊖ (da ⊗ inv db)) s.second; second = raise X x s.second }
-  step_more k h l = go (same da 𝟘) (same db 𝟘) test (ltb→lt (length s.first.top) (length s.second.bottom + t))
-    where
-      go : (e : Dec (da ≡ 𝟘)) (f : Dec (db ≡ 𝟘)) (b : Bool) → (T b → length s.first.top < length s.second.bottom + t)
-          → move X s x da db e f b
-          ≡ record { first = add_multiple_lem X s.first (⊖ (da ⊗ inv db)) s.second; second = raise X x s.second }
-      go (yes e) f b lt = absurd (k e)
-      go (no n) (yes f) b lt = absurd (h f)
-      go (no n) (no m) false lt = refl
-      go (no n) (no m) true lt = absurd (omega (arith, lt tt))
+  step_more k h l = grind arith
 
 module _ {K : Type 0} (X : Field K) where
   -- no polynomial of the state has more than n coefficients
