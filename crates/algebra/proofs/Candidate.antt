@@ -4,6 +4,7 @@ use Rattle.std.proofs.Common.{◌≡◌, ℕ, zero, suc, ◌+◌, ◌*◌, ◌<�
 use native.Mathlib.Decide.{dec_le}
 use lib.Dec.{nleb→lt}
 use Rattle.std.specs.List.{AllByRecursion}
+use Rattle.std.proofs.lemmas.Bool.{cases_eq}
 use Rattle.algebra.specs.Field.{Field}
 use Rattle.algebra.specs.Polynomial.{Apart, eval, plus, scale}
 use Rattle.algebra.specs.Decoder.{having, miss, missing, Zero, Ratio, State, discrepancy, errors, run, chosen, extended, empty, unless, collected, place, down, answer, Fit}
@@ -135,11 +136,7 @@ module _ {K : Type 0} (X : Field K) where
           (all_with (λ j a b. a ∙ sym b) k.places k.held.on k.right)
         where
           exact : (l : List I) → (length l ≤ t → length l ≡ missing root is) → length l ≤ suc t → length l ≡ suc t
-          exact l full short = by (dec_le (length l) t)
-            where
-              by : Dec (length l ≤ t) → length l ≡ suc t
-              by (yes u) = absurd (omega (arith, full u, enough))
-              by (no u) = omega arith
+          exact l full short = grind arith
 
     -- the decoder finds f, if f misses at most t of the 3·t + 1 points
     module _ (t : ℕ) (is : List I) (d : Apart x is) (enough : length is ≡ 3 * t + 1)
@@ -185,23 +182,12 @@ module _ {K : Type 0} (X : Field K) where
 -- the first k of n points also have distinct abscissae, and no more of them are missed
 module _ {K : Type 0} (X : Field K) (x y : ℕ → K) where
   down_apart : (n k : ℕ) → k ≤ n → Apart x (down n) → Apart x (down k)
-  down_apart zero k l a = let e : k ≡ 0 = omega arith in subst (λ m. Apart x (down m)) (sym e) tt
-  down_apart (suc n) k l a = by (dec_le k n) (down_apart n k)
-    where
-      by : Dec (k ≤ n) → (k ≤ n → Apart x (down n) → Apart x (down k)) → Apart x (down k)
-      by (yes h) ih = ih h a.1
-      by (no h) ih = let e : k ≡ suc n = omega arith in subst (λ m. Apart x (down m)) (sym e) a
+  down_apart zero k l a = grind arith
+  down_apart (suc n) k l a = grind (arith, down_apart n k, cases_eq k (suc n))
 
   down_errors : (f : List K) (n k : ℕ) → k ≤ n → errors X x y f (down k) ≤ errors X x y f (down n)
-  down_errors f zero k l = let e : k ≡ 0 = omega arith in subst (λ m. errors X x y f (down m) ≤ 0) (sym e) (omega arith)
-  down_errors f (suc n) k l = by (dec_le k n) (down_errors f n k)
-    where
-      by : Dec (k ≤ n) → (k ≤ n → errors X x y f (down k) ≤ errors X x y f (down n))
-          → errors X x y f (down k) ≤ errors X x y f (down (suc n))
-      by (yes h) ih = omega (arith, ih h)
-      by (no h) ih =
-          let e : k ≡ suc n = omega arith in
-          subst (λ m. errors X x y f (down m) ≤ errors X x y f (down (suc n))) (sym e) (omega arith)
+  down_errors f zero k l = grind arith
+  down_errors f (suc n) k l = grind (arith, down_errors f n k, cases_eq k (suc n))
 
 pub length_down : (n : ℕ) → length (down n) ≡ n
 length_down zero = refl

@@ -2,7 +2,7 @@
 -- Assumes nothing.
 use Rattle.std.proofs.Common.{◌≡◌, ℕ, suc, ◌+◌, ◌<◌, ◌≤◌, Bool, true, false, not, T, ltb, List, [], ◌∷◌, length, refl, arith, ltb→lt, nltb→le}
 use Rattle.algebra.specs.Field.{Field}
-use Rattle.algebra.specs.Polynomial.{plus, scale}
+use Rattle.algebra.specs.Polynomial.{plus, scale, times_root}
 use Rattle.algebra.specs.Decoder.{State, raise, add_multiple_lem, discrepancy, move, step, run}
 use Rattle.algebra.proofs.Polynomials.{times_root_within}
 use Rattle.algebra.proofs.Unique.{length_scale, length_plus_le}
@@ -50,42 +50,25 @@ module _ {K : Type 0} (X : Field K) where
   Short n s =
       (length s.first.top ≤ n) × (length s.first.bottom ≤ n) × (length s.second.top ≤ n) × (length s.second.bottom ≤ n)
 
-  plus_suc : (c : K) (f g : List K) (n : ℕ) → length f ≤ n → length g ≤ n → length (plus X f (scale X c g)) ≤ suc n
-  plus_suc c f g n lf lg = let h = length_plus_le X n f (scale X c g) lf (omega (arith, length_scale X c g)) in omega arith
-
   module _ {I : Type 0} (x y : I → K) (t : ℕ) where
     pub step_short : (n : ℕ) (s : State X) (i : I) → Short n s → Short (suc n) (step X x y t s i)
     step_short n s i h =
         go (X.same (discrepancy X x y s.first i) X.zero) (X.same (discrepancy X x y s.second i) X.zero)
         (ltb (length s.first.top) (length s.second.bottom + t))
       where
+        raised : (f : List K) → length f ≤ n → length (times_root X (x i) f) ≤ suc n
+        raised f l = times_root_within X (x i) f n l
+
+        added : (c : K) (f g : List K) → length f ≤ n → length g ≤ n → length (plus X f (scale X c g)) ≤ suc n
+        added c f g lf lg = let h = length_plus_le X n f (scale X c g) lf (omega (arith, length_scale X c g)) in omega arith
+
         go : (e : Dec (discrepancy X x y s.first i ≡ X.zero)) (f : Dec (discrepancy X x y s.second i ≡ X.zero)) (b : Bool)
             → Short (suc n) (move X s (x i) (discrepancy X x y s.first i) (discrepancy X x y s.second i) e f b)
-        go (yes e) f b = (
-          omega (arith, h.0),
-          omega (arith, h.1),
-          times_root_within X (x i) s.second.top n h.2,
-          times_root_within X (x i) s.second.bottom n h.3,
-        )
-        go (no m) (yes f) b = (
-          times_root_within X (x i) s.first.top n h.0,
-          times_root_within X (x i) s.first.bottom n h.1,
-          omega (arith, h.2),
-          omega (arith, h.3),
-        )
-        go (no m) (no k) true = (
-          times_root_within X (x i) s.first.top n h.0,
-          times_root_within X (x i) s.first.bottom n h.1,
-          plus_suc _ s.second.top s.first.top n h.2 h.0,
-          plus_suc _ s.second.bottom s.first.bottom n h.3 h.1,
-        )
-        go (no m) (no k) false = (
-          plus_suc _ s.first.top s.second.top n h.0 h.2,
-          plus_suc _ s.first.bottom s.second.bottom n h.1 h.3,
-          times_root_within X (x i) s.second.top n h.2,
-          times_root_within X (x i) s.second.bottom n h.3,
-        )
+        go (yes e) f b = omega (arith, raised)
+        go (no m) (yes f) b = omega (arith, raised)
+        go (no m) (no k) true = omega (arith, raised, added)
+        go (no m) (no k) false = omega (arith, raised, added)
 
     pub run_short : (is : List I) → Short (suc (length is)) (run X x y t is)
-    run_short [] = (omega arith, omega arith, omega arith, omega arith)
+    run_short [] = omega arith
     run_short (i ∷ is) = step_short (suc (length is)) (run X x y t is) i (run_short is)
