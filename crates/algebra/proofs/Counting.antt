@@ -1,7 +1,7 @@
 -- Counting: what stands in a list, how many things have a property after a bijection, and how many pairs and tuples have
 -- one.
 -- Assumes nothing.
-use Rattle.std.proofs.Common.{◌≡◌, ℕ, suc, ◌+◌, ◌*◌, ◌^◌, ◌≤◌, Bool, true, false, cond, List, [], ◌∷◌, ◌++◌, map, length, sym, refl, ap, ◌∙◌, subst, ap₂, inl, inr, one-mul, zero-add, one-add, arith, length-append}
+use Rattle.std.proofs.Common.{◌≡◌, ℕ, suc, ◌+◌, ◌*◌, ◌^◌, ◌≤◌, Bool, true, false, cond, List, [], ◌∷◌, ◌++◌, map, length, filter, sym, refl, ap, ◌∙◌, subst, ap₂, inl, inr, one-mul, zero-add, one-add, arith, length-append}
 use mathlib.Core.List.{head-eq_of_cons-eq, tail-eq_of_cons-eq}
 use native.Mathlib.Nat.{pow-succ', pow-zero}
 use Rattle.std.specs.List.{AllByRecursion}
@@ -19,6 +19,11 @@ product n (i ∷ is) = n i * product n is
 abbrev pub free : {I : Type 0} → (I → Bool) → List I → ℕ
 free fixed [] = 0
 free fixed (i ∷ is) = cond (fixed i) 0 1 + free fixed is
+
+-- each of the places is fixed or not
+pub free_kept : {I : Type 0} (fixed : I → Bool) (is : List I) → free fixed is + length (filter fixed is) ≡ length is
+free_kept fixed [] = refl
+free_kept fixed (i ∷ is) = grind (arith, free_kept fixed is)
 
 -- what holds of each element of a list holds of what stands in it, and back
 pub all_in : {A : Type 0} (P : A → Type 0) (l : List A) (a : A) → AllByRecursion P l → In a l → P a
@@ -171,12 +176,7 @@ product_same q (i ∷ is) = ap (λ z. q * z) (product_same q is) ∙ sym (pow-su
 -- the product of q over the places that are not fixed and of 1 over the others
 pub product_free : {I : Type 0} (q : ℕ) (fixed : I → Bool) (is : List I) → product (λ i. cond (fixed i) 1 q) is ≡ q ^ free fixed is
 product_free q fixed [] = sym (pow-zero q)
-product_free q fixed (i ∷ is) = go (fixed i) (product_free q fixed is)
-  where
-    go : (b : Bool) → product (λ i. cond (fixed i) 1 q) is ≡ q ^ free fixed is
-        → cond b 1 q * product (λ i. cond (fixed i) 1 q) is ≡ q ^ (cond b 0 1 + free fixed is)
-    go true ih = simp (one-mul, zero-add) ih
-    go false ih = simp (one-add, pow-succ') (ap (λ z. q * z) ih)
+product_free q fixed (i ∷ is) = grind (arith, product_free q fixed is, pow-succ' q (free fixed is))
 
 -- a list without an element that stands in it
 take_out : {A : Type 0} (l : List A) (a : A) → In a l

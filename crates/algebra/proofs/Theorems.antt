@@ -11,7 +11,7 @@ use Rattle.algebra.specs.Polynomial.{Apart, eval}
 use Rattle.algebra.specs.Count.{In, Exactly, AtEach}
 use Rattle.algebra.specs.Decoder.{errors}
 use Rattle.algebra.specs.Theorems.{abscissa, ordinate, Passes, agreements, AgreementIsEquality, OneInterpolates, ExactlyQPass, Given, with_further, all_points, DistinctPoints, ExactlyTheseTuples, OneDecodes}
-use Rattle.algebra.proofs.Counting.{all_in, all_from_in, in_map, in_map_back, apart_map, exactly_iff, exactly_each, free, product_free}
+use Rattle.algebra.proofs.Counting.{all_in, all_from_in, in_map, in_map_back, apart_map, exactly_iff, exactly_each, free, free_kept, product_free}
 use Rattle.algebra.proofs.Curves.{exactly_curves}
 use Rattle.algebra.proofs.Filter.{length_having}
 use Rattle.algebra.proofs.Polynomials.{same_list}
@@ -81,18 +81,7 @@ exactly_q_pass_lem q F points d = q_pass q F points d
 -- the places without a further point are all but those with one
 free_places : {K : Type 0} (places : List (Given K))
     → free (λ g. is_some g.further) places ≡ length places - length (filter (λ g. is_some g.further) places)
-free_places places = let h = both places in omega arith
-  where
-    both : {K : Type 0} (places : List (Given K))
-        → length (filter (λ g. is_some g.further) places) + free (λ g. is_some g.further) places ≡ length places
-    both [] = refl
-    both (g ∷ places) = by (is_some g.further) (both places)
-      where
-        by : (b : Bool) → length (filter (λ g. is_some g.further) places) + free (λ g. is_some g.further) places ≡ length places
-            → length (cond b (g ∷ filter (λ g. is_some g.further) places) (filter (λ g. is_some g.further) places))
-            + (cond b 0 1 + free (λ g. is_some g.further) places) ≡ suc (length places)
-        by true h = omega arith
-        by false h = omega arith
+free_places places = omega (arith, free_kept (λ g. is_some g.further) places)
 
 pub exactly_these_tuples_lem : ExactlyTheseTuples
 exactly_these_tuples_lem q F t places ok =
