@@ -119,10 +119,8 @@ module _ {K : Type 0} (F : Field K) where
 
         -- so e has at most m roots among the abscissae
         pub few_roots : length (having dec_root is) ≤ m
-        few_roots = go (dec_le (suc m) (length (having dec_root is)))
-          where
-            go : Dec (suc m ≤ length (having dec_root is)) → length (having dec_root is) ≤ m
-            go (yes h) =
-                absurd (e_not_zero
-                (roots_zero x (having dec_root is) e (apart_having dec_root x is d) (omega arith) (having_all dec_root is)))
-            go (no h) = omega arith
+        few_roots =
+            let few : suc m ≤ length (having dec_root is) → ⊥ =
+            λ h. e_not_zero
+                (roots_zero x (having dec_root is) e (apart_having dec_root x is d) (omega arith) (having_all dec_root is)) in
+            omega (arith, few)
