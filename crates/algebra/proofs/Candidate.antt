@@ -4,7 +4,7 @@ use Rattle.std.proofs.Common.{◌≡◌, ℕ, zero, suc, ◌+◌, ◌*◌, ◌<�
 use native.Mathlib.Decide.{dec_le}
 use lib.Dec.{nleb→lt}
 use Rattle.std.specs.List.{AllByRecursion}
-use Rattle.std.proofs.lemmas.Bool.{cases_eq}
+use Rattle.std.proofs.lemmas.Bool.{cases_eq, cond_both, leb-true, leb-false}
 use Rattle.algebra.specs.Field.{Field}
 use Rattle.algebra.specs.Polynomial.{Apart, eval, plus, scale}
 use Rattle.algebra.specs.Decoder.{having, miss, missing, Zero, Ratio, State, discrepancy, errors, run, chosen, extended, empty, unless, collected, place, down, answer, Fit}
@@ -157,8 +157,14 @@ module _ {K : Type 0} (X : Field K) where
       -- and one of the two ratios is short
       pub right : (collected X x y (chosen X x y t t (run X x y t is)).bottom t is).top ≡ f
       right =
-          by (leb (length s.first.top) (t + t + 1)) (leb→le (length s.first.top) (t + t + 1))
-          (nleb→lt (length s.first.top) (t + t + 1))
+          cond_both (leb (length s.first.top) (t + t + 1)) s.first s.second (λ r. (collected X x y r.bottom t is).top ≡ f)
+          (λ e.
+          let l = leb-true _ _ e in
+          from_ratio s.first l (omega (arith, h.low_a)) (sat s.first h.sat_a) (λ zq ze. lead_not_zero X s.first.top h.lead_a zq))
+          (λ e.
+          let l = leb-false _ _ e in
+          from_ratio s.second (omega (arith, h.low_b, h.sum)) (omega (arith, h.sum)) (sat s.second h.sat_b)
+          (λ zq ze. lead_not_zero X s.second.bottom h.lead_b ze))
         where
           s : State X
           s = run X x y t is
@@ -169,15 +175,6 @@ module _ {K : Type 0} (X : Field K) where
           sat : (r : Ratio X) → AllByRecursion (λ i. discrepancy X x y r i ≡ 𝟘) is
               → AllByRecursion (λ i. eval X r.top (x i) ≡ y i ⊗ eval X r.bottom (x i)) is
           sat r k = all_with (λ i m _. sub_zero X _ _ m) is k k
-
-          by : (b : Bool) → (T b → length s.first.top ≤ t + t + 1) → (T (not b) → t + t + 1 < length s.first.top)
-              → (collected X x y (cond b s.first s.second).bottom t is).top ≡ f
-          by true le gt =
-              from_ratio s.first (le tt) (omega (arith, h.low_a, le tt)) (sat s.first h.sat_a)
-              (λ zq ze. lead_not_zero X s.first.top h.lead_a zq)
-          by false le gt =
-              from_ratio s.second (omega (arith, h.low_b, h.sum, gt tt)) (omega (arith, h.sum, gt tt))
-              (sat s.second h.sat_b) (λ zq ze. lead_not_zero X s.second.bottom h.lead_b ze)
 
 -- the first k of n points also have distinct abscissae, and no more of them are missed
 module _ {K : Type 0} (X : Field K) (x y : ℕ → K) where
