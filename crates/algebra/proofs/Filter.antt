@@ -1,9 +1,9 @@
 -- The points that have a property: how many `having` keeps and how many `missing` counts, and what still holds of those it keeps.
 -- Assumes nothing.
-use Rattle.std.proofs.Common.{◌≡◌, suc, ◌+◌, ◌≤◌, List, [], ◌∷◌, length, refl, arith}
+use Rattle.std.proofs.Common.{◌≡◌, ◌+◌, ◌≤◌, List, [], ◌∷◌, length, refl, arith}
 use Rattle.std.specs.List.{AllByRecursion}
 use Rattle.algebra.specs.Polynomial.{Apart}
-use Rattle.algebra.specs.Decoder.{keep, having, miss, missing}
+use Rattle.algebra.specs.Decoder.{having, missing}
 
 module _ {I : Type 0} {P : I → Type 0} (dec : (i : I) → Dec (P i)) where
   -- each point is kept or counted

@@ -1,10 +1,9 @@
 -- The offer of a point: what it leaves where the abscissa is a root and where the point is taken, and how many coefficients the bottom of a collected ratio has at most.
 -- Assumes nothing.
-use Rattle.std.proofs.Common.{◌≡◌, ℕ, suc, ◌<◌, ◌≤◌, Bool, true, false, cond, not, T, leb, List, [], ◌∷◌, length, refl, arith, leb→le}
-use lib.Dec.{nleb→lt}
+use Rattle.std.proofs.Common.{◌≡◌, ℕ, suc, ◌≤◌, List, [], ◌∷◌, length, arith}
 use Rattle.algebra.specs.Field.{Field}
 use Rattle.algebra.specs.Polynomial.{eval}
-use Rattle.algebra.specs.Decoder.{Ratio, extended, unless, offered, collected}
+use Rattle.algebra.specs.Decoder.{Ratio, extended, offered, collected}
 use Rattle.algebra.proofs.Polynomials.{times_root_within}
 
 module _ {K : Type 0} (X : Field K) (f : List K) (t : ℕ) (p : Ratio X) (x y : K) where

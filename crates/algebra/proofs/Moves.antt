@@ -1,6 +1,6 @@
 -- The step of the decoder in each of its four cases, and how many coefficients the ratios of a run have at most.
 -- Assumes nothing.
-use Rattle.std.proofs.Common.{◌≡◌, ℕ, suc, ◌+◌, ◌<◌, ◌≤◌, Bool, true, false, not, T, ltb, List, [], ◌∷◌, length, refl, arith, ltb→lt, nltb→le}
+use Rattle.std.proofs.Common.{◌≡◌, ℕ, suc, ◌+◌, ◌<◌, ◌≤◌, Bool, true, false, ltb, List, [], ◌∷◌, length, arith}
 use Rattle.algebra.specs.Field.{Field}
 use Rattle.algebra.specs.Polynomial.{plus, scale, times_root}
 use Rattle.algebra.specs.Decoder.{State, raise, add_multiple_lem, discrepancy, move, step, run}
