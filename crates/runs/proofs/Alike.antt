@@ -2,6 +2,7 @@
 -- Assumes nothing.
 use Rattle.std.proofs.Common.{◌≡◌, ℕ, ◌-◌, ◌<◌, ◌≤◌, Bool, true, false, not, eqb, leb, ◌⊎◌, List, [], ◌++◌, map, length, get_or, replicate, Some, None, Ok, Err, filter, Option, Result, sym, refl, ap, ◌∙◌, subst, ap₂, inl, inr, arith}
 use Rattle.std.proofs.lemmas.List.{length-map}
+use Rattle.std.proofs.lemmas.List.Elements.{filter_agree}
 use Rattle.std.proofs.lemmas.Bool.{leb-true, leb-false, eqb-true, not-false, cases_Bool, cond-true, cond-false}
 use Rattle.algebra.specs.Count.{In}
 use Rattle.scheme.specs.Questions.{first_no}
@@ -13,7 +14,6 @@ use Rattle.runs.specs.Cards.{Card, Cards, lying, settled}
 use Rattle.runs.specs.Opening.{Opening, pair_at, early_questions, late_questions, concluded, FirstThree}
 use Rattle.runs.specs.Runs.{Run, start, ◌then◌, Each, Beginning, present, withdraw, seal, reopen, opens, counts, shows, done, table, answers, lies, numbers_lying, altered, lies_altered, lies_unaltered, lying_altered, lying_unaltered}
 use Rattle.runs.specs.Law.{Deal, Group, Choice, Move, as_dealt, just, called, Permitted, card_under, calls, opening, Passes, Lies, Deals, Identifies}
-use Rattle.runs.proofs.Lists.{kept_same}
 use Rattle.runs.proofs.Collected.{number, tested, numbers_kept}
 use Rattle.runs.proofs.Tables.{table_lying, lying_length, lying_lies, table_present, table_withdraw, present_by, withdraw_by}
 use Rattle.runs.proofs.Opened.{few_clean, many_clean}
@@ -72,12 +72,12 @@ module _ (D : Deal) (group : List ℕ) (grp : Group D.figures group) (c : Choice
   numbers_of p = ap (λ l. map number (filter p l)) (table_lying codes figures u v (calls D c past)) ∙ numbers_kept held p (participants figures)
 
   strays_are : map number (filter (strays D c) on_table) ≡ A
-  strays_are = numbers_of (strays D c) ∙ kept_same _ _ (participants figures) (λ i _. tested_altered i)
+  strays_are = numbers_of (strays D c) ∙ filter_agree _ _ tested_altered (participants figures)
 
   clean_count : length (filter (λ a. not (strays D c a)) on_table) ≡ length U
   clean_count =
       sym (length-map (filter (λ a. not (strays D c a)) on_table) number)
-      ∙ ap length (numbers_of (λ a. not (strays D c a)) ∙ kept_same _ _ (participants figures) (λ i _. tested_unaltered i))
+      ∙ ap length (numbers_of (λ a. not (strays D c a)) ∙ filter_agree _ _ tested_unaltered (participants figures))
 
   module _ (buffer names : List ℕ) (pass : Passes D c past buffer names) where
     abbrev three : FirstThree figures (length on_table) buffer names

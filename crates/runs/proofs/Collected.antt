@@ -28,58 +28,30 @@ tested p (Some card) i = p (i, card)
 module _ (o : ℕ → Option Card) where
   pub in_collect : (is : List ℕ) (a : ℕ × Card) → In a (collect o is) → In a.0 is × (o a.0 ≡ Some a.1)
   in_collect [] a k = absurd k
-  in_collect (i ∷ is) a k = by (o i) refl (in_collect is a) k
-    where
-      by : (x : Option Card) → o i ≡ x → (In a (collect o is) → In a.0 is × (o a.0 ≡ Some a.1))
-          → In a (put x i (collect o is)) → In a.0 (i ∷ is) × (o a.0 ≡ Some a.1)
-      by None e ih k = let r = ih k in (inr r.0, r.1)
-      by (Some card) e ih (inl q) =
-          (inl (ap number q), ap o (ap number q) ∙ e ∙ ap (λ (z : ℕ × Card). Some z.1) (sym q))
-      by (Some card) e ih (inr k) = let r = ih k in (inr r.0, r.1)
+  in_collect (i ∷ is) a k = grind (arith, in_collect is a)
 
   pub collect_in : (is : List ℕ) (i : ℕ) (card : Card) → In i is → o i ≡ Some card → In (i, card) (collect o is)
   collect_in [] i card k e = absurd k
-  collect_in (h ∷ is) i card (inl q) e =
-      subst (λ x. In (i, card) (put x h (collect o is))) (sym (ap o (sym q) ∙ e)) (inl (ap (λ z. (z, card)) q))
-  collect_in (h ∷ is) i card (inr k) e = by (o h) (collect_in is i card k e)
-    where
-      by : (x : Option Card) → In (i, card) (collect o is) → In (i, card) (put x h (collect o is))
-      by None k = k
-      by (Some y) k = inr k
+  collect_in (h ∷ is) i card (inl q) e = grind arith
+  collect_in (h ∷ is) i card (inr k) e = grind (arith, collect_in is i card k e)
 
   pub apart_collect : (is : List ℕ) → Distinct is → Apart number (collect o is)
   apart_collect [] d = tt
-  apart_collect (i ∷ is) d = by (o i) (apart_collect is d.1)
-    where
-      by : (x : Option Card) → Apart number (collect o is) → Apart number (put x i (collect o is))
-      by None k = k
-      by (Some card) k = (all_from_in (collect o is) (λ a m e. all_in _ is a.0 d.0 (in_collect is a m).0 e), k)
+  apart_collect (i ∷ is) d =
+      grind (
+        arith,
+        apart_collect is d.1,
+        all_from_in {P = λ (a : ℕ × Card). a.0 ≡ i → ⊥} (collect o is) (λ a m e. all_in _ is a.0 d.0 (in_collect is a m).0 e),
+      )
 
   -- the numbers of the cards that pass a test
   pub numbers_kept : (p : ℕ × Card → Bool) (is : List ℕ) → map number (filter p (collect o is)) ≡ filter (λ i. tested p (o i) i) is
   numbers_kept p [] = refl
-  numbers_kept p (i ∷ is) = by (o i) (numbers_kept p is)
-    where
-      one : (b : Bool) (card : Card) → map number (filter p (collect o is)) ≡ filter (λ i. tested p (o i) i) is
-          → map number (cond b ((i, card) ∷ filter p (collect o is)) (filter p (collect o is)))
-          ≡ cond b (i ∷ filter (λ i. tested p (o i) i) is) (filter (λ i. tested p (o i) i) is)
-      one true card e = ap (λ l. i ∷ l) e
-      one false card e = e
-
-      by : (x : Option Card) → map number (filter p (collect o is)) ≡ filter (λ i. tested p (o i) i) is
-          → map number (filter p (put x i (collect o is)))
-          ≡ cond (tested p x i) (i ∷ filter (λ i. tested p (o i) i) is) (filter (λ i. tested p (o i) i) is)
-      by None e = e
-      by (Some card) e = one (p (i, card)) card e
+  numbers_kept p (i ∷ is) = grind (arith, numbers_kept p is)
 
   pub numbers_collected : (is : List ℕ) → map number (collect o is) ≡ filter (λ i. is_some (o i)) is
   numbers_collected [] = refl
-  numbers_collected (i ∷ is) = by (o i) (numbers_collected is)
-    where
-      by : (x : Option Card) → map number (collect o is) ≡ filter (λ i. is_some (o i)) is
-          → map number (put x i (collect o is)) ≡ cond (is_some x) (i ∷ filter (λ i. is_some (o i)) is) (filter (λ i. is_some (o i)) is)
-      by None e = e
-      by (Some card) e = ap (λ l. i ∷ l) e
+  numbers_collected (i ∷ is) = grind (arith, numbers_collected is)
 
 pub collect_same : (o p : ℕ → Option Card) (is : List ℕ) → ((i : ℕ) → In i is → o i ≡ p i) → collect o is ≡ collect p is
 collect_same o p [] h = refl

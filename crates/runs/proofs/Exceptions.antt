@@ -4,6 +4,7 @@ use Rattle.std.proofs.Common.{◌≡◌, ℕ, ◌+◌, ◌-◌, ◌*◌, ◌^◌
 use mathlib.Core.Bool.{false≢true}
 use native.Mathlib.Nat.{pow-le-pow_right}
 use Rattle.std.proofs.lemmas.Bool.{and_parts, or_cases, not-true, cases_Bool}
+use Rattle.std.proofs.lemmas.Option.{none-some}
 use Rattle.algebra.specs.Count.{In, Exactly}
 use Rattle.algebra.proofs.Counting.{all_in, in_left, in_right}
 use Rattle.fields.specs.DoubledLaws.{doubled_laws}
@@ -12,7 +13,7 @@ use Rattle.runs.specs.Cards.{Card}
 use Rattle.runs.specs.Opening.{some}
 use Rattle.runs.specs.Runs.{Run, start, ◌then◌, Each, Beginning, present, withdraw, seal, reopen, opens, present_accepted, withdraw_accepted, lies, value_altered, tag_altered, altered, altered_values}
 use Rattle.runs.specs.Law.{Deal, Group, Choice, Move, as_dealt, just, Permitted, q, dealt_choice, card_under, calls, Lies, Deals, forgeries}
-use Rattle.runs.proofs.Lists.{some_not_none, some_in, none_in, in_kept, place_below, in_places}
+use Rattle.runs.proofs.Lists.{some_in, none_in, in_kept, place_below, in_places}
 use Rattle.runs.proofs.Beginnings.{whole}
 use Rattle.runs.proofs.Tables.{after_present, RightCard, accepted_right}
 use Rattle.runs.proofs.Likeness.{itself_unaltered}
@@ -130,7 +131,7 @@ module _ (D : Deal) (group : List ℕ) (grp : Group D.figures group) where
 
   pub exceptional : (script : Run Move) → Each (Permitted codes figures group) script → Exceptional script
   exceptional start permitted =
-      ([], omega arith, λ past e i x h a c d s. some_not_none x (sym h ∙ ap (λ z. lies codes figures (calls D (dealt_choice D) z) i) e))
+      ([], omega arith, λ past e i x h a c d s. none-some x (sym (ap (λ z. lies codes figures (calls D (dealt_choice D) z) i) e) ∙ h))
   exceptional (past then as_dealt h) permitted =
       let ih = exceptional past permitted.0 in
       same_cover past (as_dealt h) _ ih (more _ _ bound (length ih.0) ih.1)
@@ -176,7 +177,7 @@ module _ (D : Deal) (group : List ℕ) (grp : Group D.figures group) where
     where
       by : (b : Bool) (i : ℕ) (x : Card) → cond b None (lies codes figures (calls D (dealt_choice D) past) i) ≡ Some x → Lies D
           (dealt_choice D) past i x
-      by true i x e = absurd (some_not_none x (sym e))
+      by true i x e = cc
       by false i x e = e
   exceptional (past then just seal) permitted =
       let ih = exceptional past permitted.0 in same_cover past (just seal) _ ih ih.1 (λ i x e a. e)

@@ -3,6 +3,7 @@
 use Rattle.std.proofs.Common.{◌≡◌, ℕ, Bool, true, false, cond, not, ◌&&◌, eqb, ◌⊎◌, [], ◌∷◌, ◌++◌, is_some, Some, None, Option, sym, refl, ap, ◌∙◌, subst, ap₂, inl, inr, true≢false}
 use mathlib.Core.Bool.{false≢true}
 use Rattle.std.proofs.lemmas.Bool.{eqb-true, eq-eqb, cases_Bool, cond-true, cond-false}
+use Rattle.std.proofs.lemmas.Option.{none-some}
 use Rattle.algebra.proofs.Counting.{all_from_in}
 use Rattle.fields.specs.Laws.{Codes}
 use Rattle.scheme.specs.declared.types.Figures.{Figures}
@@ -10,8 +11,6 @@ use Rattle.scheme.proofs.Acceptance.{all_yes}
 use Rattle.runs.specs.Cards.{Card, Cards, card_of, lying, card_questions, present_refusal, withdraw_refusal, settled, RightTable}
 use Rattle.runs.specs.Runs.{Run, start, ◌then◌, Call, present, withdraw, seal, reopen, opens, counts, done, table, present_accepted, withdraw_accepted, lies}
 use Rattle.runs.specs.Lying.{accepts, accepted, accepted_calls, takes_up, NotTakenUp, LaidDown, LyingByAcceptedCalls, LyingUntilWithdrawn, OneCardEach}
-use Rattle.runs.proofs.Lists.{some_not_none}
-use Rattle.runs.proofs.Beginnings.{not_start}
 use Rattle.runs.proofs.Collected.{lying_apart}
 use Rattle.runs.proofs.Tables.{after_present, right_from, lies_right, table_length, table_lies, table_present, table_withdraw, lying_numbers, lying_lies, lies_lying}
 
@@ -68,7 +67,7 @@ module _ (C : Codes) (u v : ℕ) (f : Figures) where
 
   laid_down : (i : ℕ) (card : Card) (past run : Run Call) → accepted C u v f past (present i card) ≡ true
       → NotTakenUp C u v f i (past then present i card) run → lies C f run i ≡ Some card
-  laid_down i card past start a e = absurd (not_start past (present i card) e)
+  laid_down i card past start a e = cc
   laid_down i card past (run then call) a (inl e) =
       ap (λ r. lies C f r i) (sym e) ∙ cond-true _ _ _ (ap₂ ◌&&◌ (eq-eqb i i refl) (sym (present_same past i card) ∙ a))
   laid_down i card past (run then present h x) a (inr k) = by (eqb h i) refl (laid_down i card past run a k.0)
@@ -90,7 +89,7 @@ module _ (C : Codes) (u v : ℕ) (f : Figures) where
   longer i card run call e r = (r.0, r.1, inr (r.2, e))
 
   was_laid_down : (i : ℕ) (card : Card) (run : Run Call) → lies C f run i ≡ Some card → LaidDown C u v f run i card
-  was_laid_down i card start e = absurd (some_not_none card (sym e))
+  was_laid_down i card start e = cc
   was_laid_down i card (run then present h x) e =
       by (after_present h i x card (present_accepted C f (lies C f run h) h x) (lies C f run i) e) (was_laid_down i card run)
     where
@@ -105,7 +104,7 @@ module _ (C : Codes) (u v : ℕ) (f : Figures) where
     where
       by : ((eqb h i && withdraw_accepted C f (lies C f run h) h) ≡ true) ⊎ ((eqb h i && withdraw_accepted C f (lies C f run h) h) ≡ false)
           → (lies C f run i ≡ Some card → LaidDown C u v f run i card) → LaidDown C u v f (run then withdraw h) i card
-      by (inl t) ih = absurd (some_not_none card (sym e ∙ cond-true _ _ _ t))
+      by (inl t) ih = absurd (none-some card (sym (cond-true _ _ _ t) ∙ e))
       by (inr t) ih =
           longer i card run (withdraw h) (ap (λ b. eqb h i && b) (withdraw_same run h) ∙ t) (ih (sym (cond-false _ _ _ t) ∙ e))
   was_laid_down i card (run then seal) e = longer i card run seal refl (was_laid_down i card run e)

@@ -6,6 +6,7 @@ use Rattle.std.proofs.lemmas.List.{length-map}
 use Rattle.std.proofs.lemmas.List.Filters.{length-filter_both}
 use Rattle.std.proofs.ByRecursion.{All-map}
 use Rattle.std.proofs.lemmas.Bool.{eqb-true, eqb-false, eq-eqb, not-true, not-false, or_parts, cases_Bool}
+use Rattle.std.proofs.lemmas.Option.{same_Some}
 use Rattle.algebra.specs.Count.{In}
 use Rattle.algebra.proofs.Counting.{all_from_in, in_map, in_map_back, at_most}
 use Rattle.fields.specs.Doubled.{doubled, join}
@@ -15,7 +16,7 @@ use Rattle.runs.specs.Cards.{Card, Cards, lying}
 use Rattle.runs.specs.Opening.{pair_at, FirstThree}
 use Rattle.runs.specs.Runs.{Run, Each, table, written, lies, value_altered, tag_altered, altered}
 use Rattle.runs.specs.Law.{Deal, Group, Choice, Move, Permitted, card_under, calls, opening, Passes, Names, Lies, Deals}
-use Rattle.runs.proofs.Lists.{same_some, some_from, none_from, none_in, in_kept, kept_in, apart_kept, distinct_images, place_below, in_places}
+use Rattle.runs.proofs.Lists.{some_from, none_from, none_in, in_kept, kept_in, apart_kept, distinct_images, place_below, in_places}
 use Rattle.runs.proofs.Collected.{number, lying_apart}
 use Rattle.runs.proofs.Tables.{RightCard, lies_right, lying_lies, lies_lying, lying_length}
 use Rattle.runs.proofs.Opened.{hits, misses, written_is}
@@ -130,7 +131,7 @@ module _ (D : Deal) (group : List ℕ) (grp : Group D.figures group) (c : Choice
         let s = kept_in (strays D c) (lying cards) r.0 r.1 in
         let y : Some r.0.1 ≡ Some x =
         sym (lying_lies codes figures u v (calls D c past) r.0 s.0) ∙ ap (lies codes figures (calls D c past)) (sym r.2) ∙ e in
-        let z : ◌≡◌ {A = ℕ × Card} (i, x) r.0 = ap₂ {C = ℕ × Card} (λ a b. (a, b)) r.2 (sym (same_some r.0.1 x y)) in
+        let z : ◌≡◌ {A = ℕ × Card} (i, x) r.0 = ap₂ {C = ℕ × Card} (λ a b. (a, b)) r.2 (sym (same_Some r.0.1 x y)) in
         ap (strays D c) z ∙ s.1
 
     pub strays_named : (i : ℕ) (x : Card) → Lies D c past i x → strays D c (i, x) ≡ true → Names D c past buffer names i

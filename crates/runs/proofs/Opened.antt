@@ -3,7 +3,9 @@
 use Rattle.std.proofs.Common.{◌≡◌, ℕ, suc, ◌+◌, ◌-◌, ◌*◌, ◌/◌, ◌%◌, ◌<◌, ◌≤◌, Bool, true, false, not, leb, ◌⊎◌, List, [], ◌∷◌, ◌++◌, map, length, get_or, replicate, Some, None, Ok, Err, filter, Option, sym, ap, ◌∙◌, subst, ap₂, inl, inr, true≢false, arith}
 use lib.ListN.{get_or-eq_default}
 use Rattle.std.specs.List.{AllByRecursion}
+use Rattle.std.proofs.Math.Seq.{take-append_seam}
 use Rattle.std.proofs.lemmas.List.{length-map}
+use Rattle.std.proofs.lemmas.List.Elements.{filter_agree}
 use Rattle.std.proofs.ByRecursion.{All-get_or, all_kept_by, All-map, All-weaker}
 use Rattle.std.proofs.lemmas.Bool.{le-leb, eq-eqb, lt-leb, ltb-true, and_parts, not-true, cond-false, cases_lt, eqb-true, cond-true, cases_Bool}
 use Rattle.algebra.specs.Polynomial.{Apart}
@@ -24,7 +26,7 @@ use Rattle.scheme.proofs.Enumerated.{kept_none, CodesOf, polynomials_are}
 use Rattle.runs.specs.Cards.{blank, Card, Cards, lying, is_coded_lem}
 use Rattle.runs.specs.Opening.{some, pair_at, tag_point, value_point, fitting_at, is_named, named, unnamed, value_curves, early_questions, late_questions, new_key, concluded, opened, FirstThree}
 use Rattle.runs.specs.Runs.{written}
-use Rattle.runs.proofs.Lists.{no_refusal, every_from, kept_in, apart_kept, kept_map, kept_same, some_same, map_same, take_front, place_below, every_in, not_every, in_places}
+use Rattle.runs.proofs.Lists.{no_refusal, every_from, kept_in, apart_kept, kept_map, some_same, map_same, place_below, every_in, not_every, in_places}
 use Rattle.runs.proofs.Fits.{Plane, plane_kept, same_on, fitting_few, fitting_is, through_is}
 use Rattle.runs.proofs.Collected.{number, lying_apart}
 use Rattle.runs.proofs.Tables.{RightCard, participant_high}
@@ -137,10 +139,10 @@ module _ {C : Codes} {u v : ℕ} (L : DoublableLaws C u v) (f : Figures) where
         names_then names = missing ++ replicate (length names - length missing) 0
 
         named_numbers : named C u v f cards ≡ missing
-        named_numbers = ap (map number) (kept_same _ _ (lying cards) (λ a _. named_is a))
+        named_numbers = ap (map number) (filter_agree _ _ named_is (lying cards))
 
         unnamed_is : unnamed C u v f cards ≡ clean
-        unnamed_is = kept_same _ _ (lying cards) (λ a _. ap not (named_is a))
+        unnamed_is = filter_agree _ _ (λ a. ap not (named_is a)) (lying cards)
 
         module _ (key names : List ℕ) (first : FirstThree f (length (lying cards)) key names) where
           no_early : first_no (early_questions C u v f cards key names) ≡ None
@@ -166,8 +168,8 @@ module _ {C : Codes} {u v : ℕ} (L : DoublableLaws C u v) (f : Figures) where
               ∙ by (first_no (late_questions C u v f cards)) ∙ named_numbers
             where
               by : (o : Option ℕ) → written (concluded C u v f cards None o key names) ≡ named C u v f cards
-              by None = take_front (named C u v f cards) _
-              by (Some e) = take_front (named C u v f cards) _
+              by None = take-append_seam (named C u v f cards) _
+              by (Some e) = take-append_seam (named C u v f cards) _
 
           -- the late questions refuse with e
           refused : (e : ℕ) → first_no (late_questions C u v f cards) ≡ Some e
