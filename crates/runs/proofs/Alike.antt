@@ -41,25 +41,13 @@ module _ (D : Deal) (group : List ℕ) (grp : Group D.figures group) (c : Choice
 
   -- the lying cards that stray are the altered ones
   stray_is : (i : ℕ) (x : Card) → Lies D c past i x → strays D c (i, x) ≡ altered figures (card_under D c i) x
-  stray_is i x e = by (altered figures (card_under D c i) x) refl
-    where
-      by : (b : Bool) → altered figures (card_under D c i) x ≡ b → strays D c (i, x) ≡ b
-      by true h = strict i x e h
-      by false h = unaltered_stays D c i x h
+  stray_is i x e = grind (arith, strict i x e, unaltered_stays D c i x)
 
   tested_altered : (i : ℕ) → tested (strays D c) (held i) i ≡ lies_altered figures (card_under D c i) (held i)
-  tested_altered i = by (held i) refl
-    where
-      by : (o : Option Card) → held i ≡ o → tested (strays D c) o i ≡ lies_altered figures (card_under D c i) o
-      by None e = refl
-      by (Some x) e = stray_is i x e
+  tested_altered i = grind (arith, stray_is i)
 
   tested_unaltered : (i : ℕ) → tested (λ a. not (strays D c a)) (held i) i ≡ lies_unaltered figures (card_under D c i) (held i)
-  tested_unaltered i = by (held i) refl
-    where
-      by : (o : Option Card) → held i ≡ o → tested (λ a. not (strays D c a)) o i ≡ lies_unaltered figures (card_under D c i) o
-      by None e = refl
-      by (Some x) e = ap not (stray_is i x e)
+  tested_unaltered i = grind (arith, stray_is i)
 
   -- the numbers whose cards lie altered, and those whose cards lie unaltered
   abbrev A : List ℕ
@@ -125,8 +113,7 @@ told (Some e) m = Err e
 
 settled_told : (C : Codes) (f : Figures) (r : Option ℕ) (T : Cards) (h : ℕ) (new : Option Card)
     → (settled C f r T h new).0 ≡ told r (length (lying (settled C f r T h new).1))
-settled_told C f None T h new = refl
-settled_told C f (Some e) T h new = refl
+settled_told C f r T h new = grind arith
 
 module _ (D : Deal) (group : List ℕ) (grp : Group D.figures group) (b c : Choice) (hb : Deals D group b) (hc : Deals D group c) where
   open D use {codes, u, v, figures, key}
