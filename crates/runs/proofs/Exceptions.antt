@@ -25,11 +25,10 @@ in_some [] a k = absurd k
 in_some (b ∷ l) a k = omega arith
 
 more : (b : Bool) (w z n : ℕ) → n ≤ w * z → n ≤ (cond b 1 0 + w) * z
-more true w z n h = omega (arith, add-mul 1 w z, one-mul z)
-more false w z n h = subst (λ k. n ≤ k * z) (sym (zero-add w)) h
+more b w z n h = grind arith
 
 one_more : (w z n m : ℕ) → m ≤ z → n ≤ w * z → m + n ≤ (1 + w) * z
-one_more w z n m k h = omega (arith, add-mul 1 w z, one-mul z)
+one_more w z n m k h = omega arith
 
 module _ (D : Deal) (group : List ℕ) (grp : Group D.figures group) where
   open D use {codes, u, v, laws, figures}
@@ -76,18 +75,13 @@ module _ (D : Deal) (group : List ℕ) (grp : Group D.figures group) where
       )
         where
           elsewhere : (j : ℕ) → j < figures.d → va j ≡ false → ta j ≡ false
-          elsewhere j l e2 = ap (λ w. not w && ta j) (sym e2) ∙ none_in bad (places figures) j e (in_places figures.d j l)
+          elsewhere j l e2 = grind (arith, none_in bad (places figures) j e (in_places figures.d j l))
 
           values : 1 ≤ altered_values figures (dealt i) x
           values =
               let r = some_in (λ j. va j || ta j) (places figures) a in
               in_some (filter va (places figures)) r.0 (in_kept va (places figures) r.0 r.1
-              (is r.0 r.1 (or_cases (va r.0) (ta r.0) r.2) (cases_Bool (va r.0))))
-            where
-              is : (j : ℕ) → In j (places figures) → (va j ≡ true) ⊎ (ta j ≡ true) → (va j ≡ true) ⊎ (va j ≡ false) → va j ≡ true
-              is j k (inl h) z = h
-              is j k (inr h) (inl z) = z
-              is j k (inr h) (inr z) = absurd (false≢true (sym (elsewhere j (place_below figures.d j k) z) ∙ h))
+              (grind (arith, r.2, elsewhere r.0 (place_below figures.d r.0 r.1))))
 
           q_positive : 0 < q D
           q_positive = let l : 33 ≤ q D = (doubled_laws laws).at_least_33 in omega arith

@@ -1,7 +1,7 @@
 -- What lies under two choices that deal the group the same cards: the same numbers, with the same cards for the group and with the
 -- cards as dealt for all others.
 -- Assumes nothing.
-use Rattle.std.proofs.Common.{◌≡◌, ℕ, ◌+◌, Bool, true, false, cond, not, ◌&&◌, eqb, ◌⊎◌, List, is_some, Some, None, Option, sym, refl, ap, ◌∙◌, subst, ap₂, inl, inr, true≢false}
+use Rattle.std.proofs.Common.{◌≡◌, ℕ, ◌+◌, Bool, true, false, cond, not, ◌&&◌, eqb, ◌⊎◌, List, is_some, Some, None, Option, sym, refl, ap, ◌∙◌, subst, ap₂, inl, inr, true≢false, arith}
 use Rattle.std.proofs.lemmas.Bool.{eqb-true, eq-eqb, or_from}
 use Rattle.std.proofs.lemmas.List.Elements.{filter_agree}
 use Rattle.std.proofs.lemmas.Option.{none-some, same_Some}
@@ -33,9 +33,7 @@ module _ (D : Deal) (group : List ℕ) (b c : Choice) (hb : Deals D group b) (hc
       ⊎ (((x : Card) × In i group × (o ≡ Some x) × (p ≡ Some x)) ⊎ ((o ≡ Some (card_under D b i)) × (p ≡ Some (card_under D c i))))
 
   like_some : (i : ℕ) (o p : Option Card) → Like i o p → is_some o ≡ is_some p
-  like_some i o p (inl h) = ap is_some h.0 ∙ sym (ap is_some h.1)
-  like_some i o p (inr (inl h)) = ap is_some h.2 ∙ sym (ap is_some h.3)
-  like_some i o p (inr (inr h)) = ap is_some h.0 ∙ sym (ap is_some h.1)
+  like_some i o p h = grind arith
 
   -- a present of cards that are alike
   abbrev Paired : ℕ → Card → Card → Type 0
@@ -106,12 +104,7 @@ module _ (D : Deal) (group : List ℕ) (b c : Choice) (hb : Deals D group b) (hc
 
     -- a card of the group lies under both
     pub group_lies : (i : ℕ) (x : Card) → In i group → Lies D b past i x → Lies D c past i x
-    group_lies i x m e = by (like past permitted i)
-      where
-        by : Like i (under_b past i) (under_c past i) → Lies D c past i x
-        by (inl h) = absurd (none-some x (sym h.0 ∙ e))
-        by (inr (inl h)) = h.3 ∙ sym h.2 ∙ e
-        by (inr (inr h)) = h.1 ∙ ap Some (sym (all_in _ group i (same_cards D group b c hb hc) m)) ∙ sym h.0 ∙ e
+    group_lies i x m e = grind (arith, like past permitted i, all_in _ group i (same_cards D group b c hb hc) m)
 
     -- what depends on the lying card and the dealt one alone
     same_beside : (P : Card → Option Card → Bool) → ((x y : Card) → P x None ≡ P y None) → ((x y : Card) → P x (Some x) ≡ P y (Some y))
@@ -167,10 +160,4 @@ module _ (D : Deal) (group : List ℕ) (b c : Choice) (hb : Deals D group b) (hc
 -- a lying card is one of the group's, or as dealt
 pub lying_kinds : (D : Deal) (group : List ℕ) (c : Choice) → Deals D group c → (past : Run Move) → Each (Permitted D.codes D.figures group) past
     → (i : ℕ) (x : Card) → Lies D c past i x → In i group ⊎ (x ≡ card_under D c i)
-lying_kinds D group c hc past permitted i x e = by (like D group c c hc hc past permitted i)
-  where
-    by : Like D group c c hc hc i (lies D.codes D.figures (calls D c past) i) (lies D.codes D.figures (calls D c past) i)
-        → In i group ⊎ (x ≡ card_under D c i)
-    by (inl h) = absurd (none-some x (sym h.0 ∙ e))
-    by (inr (inl h)) = inl h.1
-    by (inr (inr h)) = inr (same_Some x (card_under D c i) (sym e ∙ h.0))
+lying_kinds D group c hc past permitted i x e = grind (arith, like D group c c hc hc past permitted i)

@@ -1,6 +1,6 @@
 -- Which cards lie after a run of calls.
 -- Assumes nothing.
-use Rattle.std.proofs.Common.{◌≡◌, ℕ, Bool, true, false, cond, not, ◌&&◌, eqb, ◌⊎◌, [], ◌∷◌, ◌++◌, is_some, Some, None, Option, sym, refl, ap, ◌∙◌, subst, ap₂, inl, inr, true≢false}
+use Rattle.std.proofs.Common.{◌≡◌, ℕ, Bool, true, false, cond, not, ◌&&◌, eqb, ◌⊎◌, [], ◌∷◌, ◌++◌, is_some, Some, None, Option, sym, refl, ap, ◌∙◌, subst, ap₂, inl, inr, true≢false, arith}
 use mathlib.Core.Bool.{false≢true}
 use Rattle.std.proofs.lemmas.Bool.{eqb-true, eq-eqb, cases_Bool, cond-true, cond-false}
 use Rattle.std.proofs.lemmas.Option.{none-some}
@@ -19,8 +19,7 @@ module _ (C : Codes) (u v : ℕ) (f : Figures) where
 
   settled_same : (r : Option ℕ) (cards : Cards) (i : ℕ) (new : Option Card) → accepts (counts (settled C f r cards i new).0) ≡ false
       → (settled C f r cards i new).1 ≡ cards
-  settled_same None cards i new e = absurd (true≢false e)
-  settled_same (Some x) cards i new e = refl
+  settled_same r cards i new e = grind arith
 
   unchanged : (call : Call) (cards : Cards) → accepts (done C u v f call cards).0 ≡ false → (done C u v f call cards).1 ≡ cards
   unchanged (present i card) cards e = settled_same (present_refusal C f (card_of cards i) i card) cards i (Some card) e
@@ -32,18 +31,12 @@ module _ (C : Codes) (u v : ℕ) (f : Figures) where
   -- the accepted calls alone give the same table
   accepted_alone : (run : Run Call) → table C u v f (accepted_calls C u v f run) ≡ table C u v f run
   accepted_alone start = refl
-  accepted_alone (past then call) = by (accepted C u v f past call) refl (accepted_alone past)
-    where
-      by : (b : Bool) → accepted C u v f past call ≡ b → table C u v f (accepted_calls C u v f past) ≡ table C u v f past
-          → table C u v f (cond b (accepted_calls C u v f past then call) (accepted_calls C u v f past)) ≡ table C u v f (past then call)
-      by true e ih = ap (λ T. (done C u v f call T).1) ih
-      by false e ih = ih ∙ sym (unchanged call (table C u v f past) e)
+  accepted_alone (past then call) = grind (arith, accepted_alone past, unchanged call (table C u v f past))
 
   -- ---- accepted by the answer, and accepted by the calls alone
 
   settled_accepts : (r : Option ℕ) (cards : Cards) (i : ℕ) (new : Option Card) → accepts (counts (settled C f r cards i new).0) ≡ not (is_some r)
-  settled_accepts None cards i new = refl
-  settled_accepts (Some x) cards i new = refl
+  settled_accepts r cards i new = grind arith
 
   present_same : (past : Run Call) (i : ℕ) (card : Card) → accepted C u v f past (present i card) ≡ present_accepted C f (lies C f past i) i card
   present_same past i card =

@@ -5,7 +5,7 @@ use Rattle.std.specs.List.{AllByRecursion}
 use Rattle.std.proofs.lemmas.List.{length-map}
 use Rattle.std.proofs.lemmas.List.Filters.{length-filter_both}
 use Rattle.std.proofs.ByRecursion.{All-map}
-use Rattle.std.proofs.lemmas.Bool.{eqb-true, eqb-false, eq-eqb, not-true, not-false, or_parts, cases_Bool}
+use Rattle.std.proofs.lemmas.Bool.{eqb-true, eqb-false, eq-eqb, not-true, not-false, or_parts, not_from_false, false_from_ne_true}
 use Rattle.std.proofs.lemmas.Option.{same_Some}
 use Rattle.algebra.specs.Count.{In}
 use Rattle.algebra.proofs.Counting.{all_from_in, in_map, in_map_back, at_most}
@@ -64,11 +64,7 @@ module _ (D : Deal) (c : Choice) where
         let l = place_below figures.d j k in let r = unaltered_parts e j l in ap not (dealt_tag_right j l r.0 r.1))
 
     pub altered_tag_strays : (j : ℕ) → j < figures.d → value_altered dealt x j ≡ false → tag_altered dealt x j ≡ true → strays (i, x) ≡ true
-    altered_tag_strays j l p r = some_from _ (places figures) j (in_places figures.d j l) (by (cases_Bool (tag_right j (i, x))))
-      where
-        by : (tag_right j (i, x) ≡ true) ⊎ (tag_right j (i, x) ≡ false) → not (tag_right j (i, x)) ≡ true
-        by (inl e) = absurd (altered_tag_wrong j l p r e)
-        by (inr e) = ap not e
+    altered_tag_strays j l p r = some_from _ (places figures) j (in_places figures.d j l) (not_from_false _ (false_from_ne_true _ (altered_tag_wrong j l p r)))
 
 -- ---- the table after a script
 

@@ -143,13 +143,7 @@ fits_four = fits (doubled p251 0 250) (map (tag_point p251 0) (lying two_altered
 
 -- both pass a test, or at most one is kept
 both : (test : ℕ × ℕ → Bool) (a b : ℕ × ℕ) → (every test (a ∷ b ∷ []) ≡ true) ⊎ (length (filter test (a ∷ b ∷ [])) ≤ 1)
-both test a b = by (test a) (test b)
-  where
-    by : (s t : Bool) → ((s && (t && true)) ≡ true) ⊎ (length (cond s (a ∷ cond t (b ∷ []) []) (cond t (b ∷ []) [])) ≤ 1)
-    by true true = inl refl
-    by true false = inr (omega arith)
-    by false true = inr (omega arith)
-    by false false = inr (omega arith)
+both test a b = grind arith
 
 -- a polynomial of two coefficients through two points is h
 through_two : (points : List (ℕ × ℕ)) → length points ≡ 2 → Plane (doubled p251 0 250) points → (g h : List ℕ) → CodesOf 63001 2 g

@@ -9,7 +9,7 @@ use Rattle.std.proofs.ByRecursion.{All-get_or, All-map, All-weaker}
 use Rattle.std.proofs.lemmas.Bool.{eqb-true, eqb-false, eq-eqb, not-true, not-false}
 use Rattle.algebra.specs.Polynomial.{Apart}
 use Rattle.algebra.specs.Count.{In, Exactly, AtEach}
-use Rattle.algebra.proofs.Counting.{all_in, all_from_in, in_self, exactly_iff, exactly_each, product_same, product_free, free}
+use Rattle.algebra.proofs.Counting.{all_in, all_from_in, in_self, exactly_iff, exactly_each, product_same, product_free, free, free_kept}
 use Rattle.fields.specs.Doubled.{doubled, join}
 use Rattle.fields.specs.DoubledLaws.{doubled_laws}
 use Rattle.scheme.specs.Polynomial.{value_at_lem}
@@ -69,16 +69,6 @@ each_weaker P R [] [] t h = tt
 each_weaker P R [] (x ∷ l) t h = h
 each_weaker P R (i ∷ is) [] t h = h
 each_weaker P R (i ∷ is) (x ∷ l) t h = (t i x h.0, each_weaker P R is l t h.1)
-
--- places that are free and places that are not
-free_kept : (fixed : ℕ → Bool) (is : List ℕ) → free fixed is + length (filter fixed is) ≡ length is
-free_kept fixed [] = refl
-free_kept fixed (i ∷ is) = by (fixed i) (free_kept fixed is)
-  where
-    by : (b : Bool) → free fixed is + length (filter fixed is) ≡ length is
-        → (cond b 0 1 + free fixed is) + length (cond b (i ∷ filter fixed is) (filter fixed is)) ≡ suc (length is)
-    by true h = omega arith
-    by false h = omega arith
 
 all_unmap : {A B : Type 0} (P : B → Type 0) (g : A → B) (l : List A) → AllByRecursion P (map g l) → AllByRecursion (λ a. P (g a)) l
 all_unmap P g [] h = tt
@@ -233,11 +223,7 @@ module _ (D : Deal) (group : List ℕ) (grp : Group D.figures group) where
           (off, points_apart j l)))
 
       count_at : (j : ℕ) → j < figures.d → Exactly (cond (value_altered dealt x j) 1 (q D)) (Deceived j)
-      count_at j l = by (value_altered dealt x j) refl
-        where
-          by : (b : Bool) → value_altered dealt x j ≡ b → Exactly (cond b 1 (q D)) (Deceived j)
-          by true e = count_at_altered j l e
-          by false e = count_at_dealt j l e
+      count_at j l = grind (arith, count_at_altered j l, count_at_dealt j l)
 
       pub unnamed_count : Exactly (q D ^ (figures.d - altered_values figures dealt x)) (λ c. Deals D group c × (strays D c (i, x) ≡ false))
       unnamed_count =
