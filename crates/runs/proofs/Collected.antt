@@ -70,8 +70,7 @@ lying_collected i (x ∷ cards) o e =
 
     by : (x : Option Card) → lying_from (suc i) cards ≡ collect o (range_with_len (i + 1) (length cards))
         → lying_from i (x ∷ cards) ≡ put x i (collect o (range_with_len (i + 1) (length cards)))
-    by None h = h
-    by (Some card) h = ap (λ l. (i, card) ∷ l) h
+    by x h = grind arith
 
 -- on a table of n places, what lies are the cards of the numbers from 1 to n
 pub lying_is : (cards : Cards) (n : ℕ) → length cards ≡ n → lying cards ≡ collect (card_of cards) (range_with_len 1 n)

@@ -3,7 +3,7 @@
 use Rattle.std.proofs.Common.{◌≡◌, ℕ, ◌+◌, ◌-◌, ◌*◌, ◌^◌, ◌<◌, ◌≤◌, Bool, true, false, cond, not, ◌&&◌, ◌||◌, eqb, ◌⊎◌, List, [], ◌∷◌, ◌++◌, length, Some, None, filter, sym, refl, ap, ◌∙◌, subst, ap₂, inl, inr, true≢false, add-mul, one-mul, zero-add, arith, length-append}
 use mathlib.Core.Bool.{false≢true}
 use native.Mathlib.Nat.{pow-le-pow_right}
-use Rattle.std.proofs.lemmas.Bool.{and_parts, or_cases, not-true, cases_Bool}
+use Rattle.std.proofs.lemmas.Bool.{and_from, and_parts, or_cases, not-true, cases_Bool}
 use Rattle.std.proofs.lemmas.Option.{none-some}
 use Rattle.algebra.specs.Count.{In, Exactly}
 use Rattle.algebra.proofs.Counting.{all_in, in_left, in_right}
@@ -27,8 +27,8 @@ in_some (b ∷ l) a k = omega arith
 more : (b : Bool) (w z n : ℕ) → n ≤ w * z → n ≤ (cond b 1 0 + w) * z
 more b w z n h = grind arith
 
-one_more : (w z n m : ℕ) → m ≤ z → n ≤ w * z → m + n ≤ (1 + w) * z
-one_more w z n m k h = omega arith
+one_more : (b : Bool) (w z n m : ℕ) → b ≡ true → m ≤ z → n ≤ w * z → m + n ≤ (cond b 1 0 + w) * z
+one_more b w z n m e k h = grind arith
 
 module _ (D : Deal) (group : List ℕ) (grp : Group D.figures group) where
   open D use {codes, u, v, laws, figures}
@@ -148,9 +148,11 @@ module _ (D : Deal) (group : List ℕ) (grp : Group D.figures group) where
           let one = one_card h y (member fy) (accepted_right codes figures _ h y p) r in
           let w = forgeries D (dealt_choice D) past in (
             one.0 ++ ih.0,
-            subst (λ b. length (one.0 ++ ih.0) ≤ (cond b 1 0 + w) * bound) (sym (ap₂ ◌&&◌ p r))
-                (subst (λ z. z ≤ (1 + w) * bound) (sym (length-append one.0 ih.0))
-                (one_more w bound (length ih.0) (length one.0) one.1 ih.1)),
+            omega (
+              arith,
+              length-append one.0 ih.0,
+              one_more _ w bound (length ih.0) (length one.0) (and_from _ _ p r) one.1 ih.1,
+            ),
             extend (one.0 ++ ih.0) ih.0 past (just (present h y)) (λ c k. in_right one.0 ih.0 c k) ih.2
                 (λ i x e b c d s. either one.0 ih.0 c (after_present h i y x accepted _ e)
                 (λ z. one.2 c d (ap₂ (λ n card. strays D c (n, card)) z.1 z.2 ∙ s))
@@ -167,12 +169,7 @@ module _ (D : Deal) (group : List ℕ) (grp : Group D.figures group) where
   exceptional (past then just (withdraw h)) permitted =
       let ih = exceptional past permitted.0 in
       same_cover past (just (withdraw h)) _ ih ih.1
-      (λ i x e a. by (eqb h i && withdraw_accepted codes figures (lies codes figures (calls D (dealt_choice D) past) h) h) i x e)
-    where
-      by : (b : Bool) (i : ℕ) (x : Card) → cond b None (lies codes figures (calls D (dealt_choice D) past) i) ≡ Some x → Lies D
-          (dealt_choice D) past i x
-      by true i x e = cc
-      by false i x e = e
+      (λ i x e a. grind arith)
   exceptional (past then just seal) permitted =
       let ih = exceptional past permitted.0 in same_cover past (just seal) _ ih ih.1 (λ i x e a. e)
   exceptional (past then just reopen) permitted =

@@ -1,16 +1,16 @@
 -- What open finds on a table, where at each place at most t lying cards miss one given polynomial.
 -- Assumes nothing.
 use Rattle.std.proofs.Common.{◌≡◌, ℕ, suc, ◌+◌, ◌-◌, ◌*◌, ◌/◌, ◌%◌, ◌<◌, ◌≤◌, Bool, true, false, not, leb, ◌⊎◌, List, [], ◌∷◌, ◌++◌, map, length, get_or, replicate, Some, None, Ok, Err, filter, Option, sym, ap, ◌∙◌, subst, ap₂, inl, inr, true≢false, arith}
-use lib.ListN.{get_or-eq_default}
 use Rattle.std.specs.List.{AllByRecursion}
 use Rattle.std.proofs.Math.Seq.{take-append_seam}
-use Rattle.std.proofs.lemmas.List.{length-map}
+use Rattle.std.proofs.lemmas.List.{length-map, get_or_past}
 use Rattle.std.proofs.lemmas.List.Elements.{filter_agree}
 use Rattle.std.proofs.ByRecursion.{All-get_or, all_kept_by, All-map, All-weaker}
-use Rattle.std.proofs.lemmas.Bool.{le-leb, eq-eqb, lt-leb, ltb-true, and_parts, not-true, cond-false, cases_lt, eqb-true, cond-true, cases_Bool}
+use Rattle.std.proofs.lemmas.Bool.{le-leb, eq-eqb, lt-leb, ltb-true, and_parts, not-true, cond-false, eqb-true, cond-true, false_from_ne_true}
 use Rattle.algebra.specs.Polynomial.{Apart}
 use Rattle.algebra.specs.Count.{In}
-use Rattle.algebra.proofs.Counting.{all_in, all_from_in, in_map_back}
+use Rattle.algebra.proofs.Counting.{in_map_back}
+use Rattle.algebra.proofs.Polynomials.{all_with}
 use Rattle.fields.specs.Laws.{Codes, DoublableLaws}
 use Rattle.fields.specs.Doubled.{doubled, join}
 use Rattle.fields.specs.Elements.{zero_below}
@@ -35,8 +35,8 @@ use Rattle.runs.proofs.Tables.{RightCard, participant_high}
 pub apart_points : {A : Type 0} {P : A → Type 0} (p : A → ℕ × ℕ) (x : A → ℕ) → ((a b : A) → P a → P b → (p a).0 ≡ (p b).0 → x a ≡ x b)
     → (l : List A) → AllByRecursion P l → Apart x l → Apart (λ (z : ℕ × ℕ). z.0) (map p l)
 apart_points p x inj [] h d = tt
-apart_points {P = P} p x inj (a ∷ l) h d = (
-  All-map _ p l (all_from_in l (λ b k e. all_in _ l b d.0 k (inj b a (all_in P l b h.1 k) h.0 e))),
+apart_points p x inj (a ∷ l) h d = (
+  All-map _ p l (all_with (λ b n pb e. n (inj b a pb h.0 e)) l d.0 h.1),
   apart_points p x inj l h.1 d.1,
 )
 
@@ -63,11 +63,7 @@ module _ {C : Codes} {u v : ℕ} (L : DoublableLaws C u v) (f : Figures) where
       (ltb-true _ _ r.0, ltb-true _ _ r.1)
 
   pub pair_value_below : (card : Card) → every (is_coded_lem C) card ≡ true → (j : ℕ) → (pair_at card j).value < C.size
-  pair_value_below card e j = by (cases_lt j (length card))
-    where
-      by : (j < length card) ⊎ (length card ≤ j) → (pair_at card j).value < C.size
-      by (inl h) = (pair_below card e j h).0
-      by (inr h) = subst (λ (a : Pair). a.value < C.size) (sym (get_or-eq_default card blank h)) (zero_below L.on_codes)
+  pair_value_below card e j = grind (arith, pair_below card e j, get_or_past card j blank, zero_below L.on_codes)
 
   -- the abscissa value + i·y tells the value and i
   pub point_below : (i w : ℕ) → i ≤ f.n → w < C.size → join C.size w i < C.size * C.size
@@ -206,15 +202,14 @@ module _ {C : Codes} {u v : ℕ} (L : DoublableLaws C u v) (f : Figures) where
                   (λ p k. let r = kept_in (passes C h) points p k in eqb-true _ _ (every_in (passes C g) points p e r.0) ∙ sym
                   (eqb-true _ _ r.1))
 
-              off : (g : List ℕ) → CodesOf C.size f.k g → (every (passes C g) points ≡ true) ⊎ (every (passes C g) points ≡ false)
-                  → every (passes C g) points ≡ false
-              off g hg (inl e) = absurd (true≢false (sym (ap (λ z. every (passes C z) points) (sym (only g hg e)) ∙ e) ∙ not-all))
-              off g hg (inr e) = e
+              off : (g : List ℕ) → CodesOf C.size f.k g → every (passes C g) points ≡ false
+              off g hg =
+                  false_from_ne_true _ (λ e. true≢false (sym (ap (λ z. every (passes C z) points) (sym (only g hg e)) ∙ e) ∙ not-all))
 
               none : value_curves C u v f cards j ≡ []
               none =
                   ap (λ z. filter (λ g. every (passes C g) (map (value_point j) z)) (polynomials C.size f.k)) unnamed_is
-                  ∙ kept_none _ (polynomials C.size f.k) (λ g k. off g (polynomials_are _ _ g k) (cases_Bool (every (passes C g) points)))
+                  ∙ kept_none _ (polynomials C.size f.k) (λ g k. off g (polynomials_are _ _ g k))
 
           module _ (F : ℕ → List ℕ) (goodF : (j : ℕ) → j < f.d → CodesOf C.size f.k (F j))
               (on : (a : ℕ × Card) → In a (lying cards) → misses C u v f G a ≡ false → (j : ℕ) → j < f.d → value_at_lem C (F j) a.0 ≡ (pair_at

@@ -45,10 +45,8 @@ each_from P a (suc n) (x ∷ l) e h k = (
     next a j = omega arith
 
 each_length : {A : Type 0} (P : ℕ → A → Type 0) (is : List ℕ) (l : List A) → AtEach P is l → length l ≡ length is
-each_length P [] [] h = refl
-each_length P [] (x ∷ l) h = absurd h
-each_length P (i ∷ is) [] h = absurd h
-each_length P (i ∷ is) (x ∷ l) h = ap suc (each_length P is l h.1)
+each_length P [] l h = grind arith
+each_length P (i ∷ is) l h = grind (arith, each_length P is)
 
 each_at : {A : Type 0} (P : ℕ → A → Type 0) (a n : ℕ) (l : List A) (e : A) → AtEach P (range_with_len a n) l
     → (j : ℕ) → j < n → P (a + j) (get_or l j e)
@@ -59,16 +57,12 @@ each_at P a (suc n) (x ∷ l) e h (suc j) k = subst (λ z. P z (get_or l j e)) (
 
 each_all : {A : Type 0} (P : A → Type 0) (R : ℕ → A → Type 0) (is : List ℕ) (l : List A) → ((j : ℕ) (a : A) → R j a → P a)
     → AtEach R is l → AllByRecursion P l
-each_all P R [] [] t h = tt
-each_all P R [] (x ∷ l) t h = absurd h
-each_all P R (i ∷ is) [] t h = absurd h
-each_all P R (i ∷ is) (x ∷ l) t h = (t i x h.0, each_all P R is l t h.1)
+each_all P R [] l t h = grind arith
+each_all P R (i ∷ is) l t h = grind (arith, each_all P R is)
 
 each_weaker : {A : Type 0} (P R : ℕ → A → Type 0) (is : List ℕ) (l : List A) → ((j : ℕ) (a : A) → P j a → R j a) → AtEach P is l → AtEach R is l
-each_weaker P R [] [] t h = tt
-each_weaker P R [] (x ∷ l) t h = h
-each_weaker P R (i ∷ is) [] t h = h
-each_weaker P R (i ∷ is) (x ∷ l) t h = (t i x h.0, each_weaker P R is l t h.1)
+each_weaker P R [] l t h = grind arith
+each_weaker P R (i ∷ is) l t h = grind (arith, each_weaker P R is)
 
 all_unmap : {A B : Type 0} (P : B → Type 0) (g : A → B) (l : List A) → AllByRecursion P (map g l) → AllByRecursion (λ a. P (g a)) l
 all_unmap P g [] h = tt
