@@ -109,12 +109,8 @@ module _ (D : Deal) (group : List ℕ) (b c : Choice) (hb : Deals D group b) (hc
     -- what depends on the lying card and the dealt one alone
     same_beside : (P : Card → Option Card → Bool) → ((x y : Card) → P x None ≡ P y None) → ((x y : Card) → P x (Some x) ≡ P y (Some y))
         → (i : ℕ) → P (card_under D b i) (under_b past i) ≡ P (card_under D c i) (under_c past i)
-    same_beside P none itself i = by (like past permitted i)
-      where
-        by : Like i (under_b past i) (under_c past i) → P (card_under D b i) (under_b past i) ≡ P (card_under D c i) (under_c past i)
-        by (inl h) = ap (P _) h.0 ∙ none _ _ ∙ sym (ap (P _) h.1)
-        by (inr (inl h)) = ap₂ P (all_in _ group i (same_cards D group b c hb hc) h.1) h.2 ∙ sym (ap (P _) h.3)
-        by (inr (inr h)) = ap (P _) h.0 ∙ itself _ _ ∙ sym (ap (P _) h.1)
+    same_beside P none itself i =
+        grind (arith, like past permitted i, all_in _ group i (same_cards D group b c hb hc), none, itself)
 
     pub same_altered : lying_altered codes figures (card_under D b) (calls D b past) ≡ lying_altered codes figures (card_under D c) (calls D c past)
     same_altered =

@@ -50,11 +50,7 @@ module _ (C : Codes) (u v : ℕ) (f : Figures) where
 
   -- where a card of i lies, a present of i is refused
   second : (old card : Card) (i : ℕ) → present_accepted C f (Some old) i card ≡ false
-  second old card i = by (present_refusal C f (Some old) i card) refl
-    where
-      by : (r : Option ℕ) → present_refusal C f (Some old) i card ≡ r → not (is_some r) ≡ false
-      by None e = absurd (false≢true (all_yes (card_questions C f i card ++ (false, 44) ∷ []) e).1.1.1.0)
-      by (Some x) e = refl
+  second old card i = grind (arith, all_yes (card_questions C f i card ++ (false, 44) ∷ []))
 
   -- ---- a card lies from its accepted present to the next accepted withdraw
 
@@ -63,14 +59,8 @@ module _ (C : Codes) (u v : ℕ) (f : Figures) where
   laid_down i card past start a e = cc
   laid_down i card past (run then call) a (inl e) =
       ap (λ r. lies C f r i) (sym e) ∙ cond-true _ _ _ (ap₂ ◌&&◌ (eq-eqb i i refl) (sym (present_same past i card) ∙ a))
-  laid_down i card past (run then present h x) a (inr k) = by (eqb h i) refl (laid_down i card past run a k.0)
-    where
-      by : (b : Bool) → eqb h i ≡ b → lies C f run i ≡ Some card
-          → cond (b && present_accepted C f (lies C f run h) h x) (Some x) (lies C f run i) ≡ Some card
-      by true e ih =
-          let hi = eqb-true h i e in
-          cond-false _ _ _ (ap (λ o. present_accepted C f o h x) (ap (lies C f run) hi ∙ ih) ∙ second card x h) ∙ ih
-      by false e ih = ih
+  laid_down i card past (run then present h x) a (inr k) =
+      grind (arith, second card x h, laid_down i card past run a k.0)
   laid_down i card past (run then withdraw h) a (inr k) =
       cond-false _ _ _ (ap (λ b. eqb h i && b) (sym (withdraw_same run h)) ∙ k.1) ∙ laid_down i card past run a k.0
   laid_down i card past (run then seal) a (inr k) = laid_down i card past run a k.0
@@ -93,13 +83,9 @@ module _ (C : Codes) (u v : ℕ) (f : Figures) where
           (run, subst (λ call. accepted C u v f run call ≡ true) same (present_same run h x ∙ r.0), inl (ap (λ call. run then call) (sym same)))
       by (inr k) ih = longer i card run (present h x) refl (ih k)
   was_laid_down i card (run then withdraw h) e =
-      by (cases_Bool (eqb h i && withdraw_accepted C f (lies C f run h) h)) (was_laid_down i card run)
-    where
-      by : ((eqb h i && withdraw_accepted C f (lies C f run h) h) ≡ true) ⊎ ((eqb h i && withdraw_accepted C f (lies C f run h) h) ≡ false)
-          → (lies C f run i ≡ Some card → LaidDown C u v f run i card) → LaidDown C u v f (run then withdraw h) i card
-      by (inl t) ih = absurd (none-some card (sym (cond-true _ _ _ t) ∙ e))
-      by (inr t) ih =
-          longer i card run (withdraw h) (ap (λ b. eqb h i && b) (withdraw_same run h) ∙ t) (ih (sym (cond-false _ _ _ t) ∙ e))
+      let kept : lies C f run i ≡ Some card = grind arith in
+      let refused : (eqb h i && withdraw_accepted C f (lies C f run h) h) ≡ false = grind arith in
+      longer i card run (withdraw h) (ap (λ b. eqb h i && b) (withdraw_same run h) ∙ refused) (was_laid_down i card run kept)
   was_laid_down i card (run then seal) e = longer i card run seal refl (was_laid_down i card run e)
   was_laid_down i card (run then reopen) e = longer i card run reopen refl (was_laid_down i card run e)
   was_laid_down i card (run then opens key names) e = longer i card run (opens key names) refl (was_laid_down i card run e)

@@ -99,14 +99,11 @@ module _ (D : Deal) (group : List ℕ) (grp : Group D.figures group) (c : Choice
         grp.size,
       )
     where
-      same : (x y : ℕ) → x ≡ y → not (lib.Dec.eqb x y) ≡ false
-      same x y e = ap not (eq-eqb x y e)
-
       member : (a : ℕ × Card) → tag_right D c j a ≡ false → In a.0 group ⊎ (a.1 ≡ card_under D c a.0) → In a.0 group
       member a e (inl k) = k
       member a e (inr z) =
-          absurd (true≢false (sym (dealt_tag_right D c a.0 a.1 j l (same _ _ (ap (λ x. (pair_at x j).value) z))
-          (same _ _ (ap (λ x. (pair_at x j).tag) z))) ∙ e))
+          absurd (true≢false (sym (dealt_tag_right D c a.0 a.1 j l (ap not (eq-eqb _ _ (ap (λ x. (pair_at x j).value) z)))
+          (ap not (eq-eqb _ _ (ap (λ x. (pair_at x j).tag) z)))) ∙ e))
 
   module _ (buffer names : List ℕ) (pass : Passes D c past buffer names) where
     pub first_three : FirstThree figures (length (lying cards)) buffer names

@@ -78,28 +78,12 @@ module _ (C : Codes) (f : Figures) where
   settled_at : (r : Option ℕ) (T : Cards) (h i : ℕ) (new l : Option Card) → length T ≡ f.n
       → (r ≡ None → is_participant C f h ≡ true) → is_participant C f i ≡ true → card_of T i ≡ l
       → card_of (settled C f r T h new).1 i ≡ cond (eqb h i && not (is_some r)) new l
-  settled_at (Some x) T h i new l e n m k = k ∙ sym (ap (λ b. cond b new l) (and_right (eqb h i) false refl))
-  settled_at None T h i new l e n m k = by (cases_eq h i)
-    where
-      nh : 1 ≤ h
-      nh = participant_low h (n refl)
-
-      ni : 1 ≤ i
-      ni = participant_low i m
-
-      hi : i ≤ f.n
-      hi = participant_high i m
-
-      same : h ≡ i → get_or (set T (h - 1) new) (i - 1) None ≡ new
-      same q =
-          ap (λ z. get_or (set T (z - 1) new) (i - 1) None) q ∙ get_or-set_same T (i - 1) new None (let a = ni in let b = hi in omega arith)
-
-      other : (h ≡ i → ⊥) → i - 1 ≡ h - 1 → ⊥
-      other q z = q (let a = ni in let b = nh in omega arith)
-
-      by : (h ≡ i) ⊎ (h ≡ i → ⊥) → get_or (set T (h - 1) new) (i - 1) None ≡ cond (eqb h i && true) new l
-      by (inl q) = same q ∙ sym (ap (λ b. cond (b && true) new l) (eq-eqb h i q))
-      by (inr q) = get_or-set_other T (h - 1) (i - 1) new None (other q) ∙ k ∙ sym (ap (λ b. cond (b && true) new l) (ne_eqb h i q))
+  settled_at (Some x) T h i new l e n m k = grind arith
+  settled_at None T h i new l e n m k =
+      let nh = participant_low h (n refl) in
+      let ni = participant_low i m in
+      let hi = participant_high i m in
+      grind (arith, get_or-set_same T (i - 1) new None, get_or-set_other T (h - 1) (i - 1) new None)
 
   withdraw_participant : (old : Option Card) (i : ℕ) → withdraw_refusal C f old i ≡ None → is_participant C f i ≡ true
   withdraw_participant old i e = (all_yes ((is_participant C f i, 41) ∷ (is_some old, 45) ∷ []) e).0
