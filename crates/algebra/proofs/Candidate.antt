@@ -8,7 +8,8 @@ use Rattle.algebra.specs.Field.{Field}
 use Rattle.algebra.specs.Polynomial.{Apart, eval, plus, scale}
 use Rattle.algebra.specs.Decoder.{having, miss, missing, Zero, Ratio, State, discrepancy, errors, run, chosen, extended, empty, unless, collected, place, down, answer, Fit}
 use Rattle.algebra.proofs.Rules.{zero_mul, mul_zero, zero_factor}
-use Rattle.algebra.proofs.Polynomials.{all_with, sub_zero, fraction, eval_add_multiple, eval_times_root, length_times_root, same_list}
+use Rattle.algebra.proofs.Counting.{all_with}
+use Rattle.algebra.proofs.Polynomials.{sub_zero, fraction, eval_add_multiple, eval_times_root, length_times_root, same_list}
 use Rattle.algebra.proofs.Unique.{length_scale, length_plus_right, key_at, few_roots, lead_not_zero}
 use Rattle.algebra.proofs.Filter.{length_having}
 use Rattle.algebra.proofs.Decoding.{Inv, inv_run}

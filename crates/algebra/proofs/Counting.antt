@@ -55,6 +55,11 @@ in_map_back f [] b h = absurd h
 in_map_back f (c ∷ l) b (inl e) = (c, inl refl, e)
 in_map_back f (c ∷ l) b (inr h) = let r = in_map_back f l b h in (r.0, inr r.1, r.2)
 
+-- where P and Q hold of each element of a list, so does what follows from both
+pub all_with : {A : Type 0} {P Q R : A → Type 0} → ((a : A) → P a → Q a → R a) → (l : List A) → AllByRecursion P l → AllByRecursion Q l → AllByRecursion R l
+all_with k [] p q = tt
+all_with k (a ∷ l) p q = (k a p.0 q.0, all_with k l p.1 q.1)
+
 pub in_self : {A : Type 0} (l : List A) → AllByRecursion (λ a. In a l) l
 in_self l = all_from_in l (λ a k. k)
 
@@ -62,12 +67,8 @@ in_self l = all_from_in l (λ a k. k)
 pub apart_map : {A B : Type 0} {P : A → Type 0} (f : A → B) → ((a b : A) → P a → P b → f a ≡ f b → a ≡ b) → (l : List A) → AllByRecursion P l
     → Distinct l → Distinct (map f l)
 apart_map f inj [] p d = tt
-apart_map {B = B} f inj (a ∷ l) p d = (all_from_in (map f l) other, apart_map f inj l p.1 d.1)
-  where
-    other : (b : B) → In b (map f l) → b ≡ f a → ⊥
-    other b k e =
-        let r = in_map_back f l b k in
-        all_in _ l r.0 d.0 r.1 (inj r.0 a (all_in _ l r.0 p.1 r.1) p.0 (sym r.2 ∙ e))
+apart_map f inj (a ∷ l) p d =
+    (All-map (λ b. b ≡ f a → ⊥) f l (all_with (λ b n pb e. n (inj b a pb p.0 e)) l d.0 p.1), apart_map f inj l p.1 d.1)
 
 -- two distinct lists with no common element make a distinct list
 pub apart_append : {A : Type 0} (l r : List A) → Distinct l → Distinct r → ((a : A) → In a l → In a r → ⊥) → Distinct (l ++ r)
@@ -198,5 +199,5 @@ pub at_most : {A : Type 0} (l r : List A) → Distinct l → AllByRecursion (λ 
 at_most [] r d h = omega arith
 at_most (a ∷ l) r d h =
     let t = take_out r a h.0 in
-    let k = at_most l t.0 d.1 (all_from_in l (λ b m. t.2 b (all_in _ l b d.0 m) (all_in _ l b h.1 m))) in
+    let k = at_most l t.0 d.1 (all_with t.2 l d.0 h.1) in
     omega (arith, t.1)

@@ -36,16 +36,13 @@ exactly_below (suc q) =
         all_from_in (map (below_suc q) x.list)
             (λ b k e. let r = in_map_back (below_suc q) x.list b k in omega (arith, ap (λ z. z.0) (sym r.2 ∙ e))),
         apart_map {P = λ _. Unit {0}} (below_suc q)
-            (λ a b _ _ e. Σ_prop_path (λ n. le_prop) (suc_inj a.0 b.0 (ap (λ z. z.0) e))) x.list x.sound x.apart,
+            (λ a b _ _ e. Σ_prop_path (λ n. le_prop) (omega (arith, ap (λ z. z.0) e))) x.list x.sound x.apart,
       );
       count = ap suc (length-map x.list (below_suc q) ∙ x.count);
       sound = (tt, all_from_in (map (below_suc q) x.list) (λ _ _. tt));
       complete = λ k _. found x.list x.complete k.0 k.1;
     }
   where
-    suc_inj : (a b : ℕ) → suc a ≡ suc b → a ≡ b
-    suc_inj a b e = omega arith
-
     found : (l : List (Below q)) → ((a : Below q) → Unit {0} → In a l) → (n : ℕ) (h : n < suc q)
         → In {A = Below (suc q)} (n, h) (below_zero q ∷ map (below_suc q) l)
     found l c zero h = inl (Σ_prop_path (λ n. le_prop) refl)

@@ -9,7 +9,8 @@ use Rattle.algebra.specs.Polynomial.{Apart, eval, plus, scale, times}
 use Rattle.algebra.specs.Decoder.{having, Zero, Lead, errors}
 use Rattle.algebra.proofs.Rules.{mul_zero}
 use Rattle.algebra.proofs.Normal.{v, :0, ◌:+◌, ◌:*◌, ring}
-use Rattle.algebra.proofs.Polynomials.{all_with, mul_cancel, eval_times, agree, same_list}
+use Rattle.algebra.proofs.Counting.{all_with}
+use Rattle.algebra.proofs.Polynomials.{mul_cancel, eval_times, agree, same_list}
 use Rattle.algebra.proofs.Filter.{length_having, having_all, all_having, apart_having, missing_having}
 
 module _ {K : Type 0} (F : Field K) where

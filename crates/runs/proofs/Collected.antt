@@ -1,6 +1,6 @@
 -- The cards on a table as the list of those that lie.
 -- Assumes nothing.
-use Rattle.std.proofs.Common.{◌≡◌, ℕ, suc, ◌+◌, ◌-◌, ◌<◌, Bool, true, false, cond, List, [], ◌∷◌, map, length, get_or, is_some, Some, None, filter, Option, sym, refl, ap, ◌∙◌, subst, ap₂, inl, inr, arith}
+use Rattle.std.proofs.Common.{◌≡◌, ℕ, suc, ◌+◌, ◌-◌, ◌<◌, Bool, true, false, cond, List, [], ◌∷◌, map, length, get_or, is_some, Some, None, filter, Option, sym, refl, ap, ◌∙◌, subst, ap₂, inl, inr, add-one, arith}
 use Rattle.std.specs.List.{range_with_len}
 use Rattle.algebra.specs.Polynomial.{Apart, Distinct}
 use Rattle.algebra.specs.Count.{In}
@@ -62,12 +62,9 @@ lying_collected : (i : ℕ) (cards : Cards) (o : ℕ → Option Card) → ((h : 
     → lying_from i cards ≡ collect o (range_with_len i (length cards))
 lying_collected i [] o e = refl
 lying_collected i (x ∷ cards) o e =
-    by x (ap (λ z. lying_from z cards) (next i) ∙ lying_collected (i + 1) cards o (λ h l. e (suc h) (omega arith) ∙ ap o (omega arith)))
+    by x (ap (λ z. lying_from z cards) (sym (add-one i)) ∙ lying_collected (i + 1) cards o (λ h l. e (suc h) (omega arith) ∙ ap o (omega arith)))
     ∙ ap (λ y. put y i (collect o (range_with_len (i + 1) (length cards)))) (e 0 (omega arith) ∙ ap o (omega arith))
   where
-    next : (i : ℕ) → suc i ≡ i + 1
-    next i = omega arith
-
     by : (x : Option Card) → lying_from (suc i) cards ≡ collect o (range_with_len (i + 1) (length cards))
         → lying_from i (x ∷ cards) ≡ put x i (collect o (range_with_len (i + 1) (length cards)))
     by x h = grind arith
@@ -75,10 +72,7 @@ lying_collected i (x ∷ cards) o e =
 -- on a table of n places, what lies are the cards of the numbers from 1 to n
 pub lying_is : (cards : Cards) (n : ℕ) → length cards ≡ n → lying cards ≡ collect (card_of cards) (range_with_len 1 n)
 lying_is cards n e =
-    lying_collected 1 cards (card_of cards) (λ h l. ap (λ z. get_or cards z None) (less h)) ∙ ap (λ z. collect (card_of cards) (range_with_len 1 z)) e
-  where
-    less : (h : ℕ) → h ≡ 1 + h - 1
-    less h = omega arith
+    lying_collected 1 cards (card_of cards) (λ h l. ap (λ z. get_or cards z None) (omega arith)) ∙ ap (λ z. collect (card_of cards) (range_with_len 1 z)) e
 
 -- no number has two cards
 pub lying_apart : (cards : Cards) → Apart number (lying cards)

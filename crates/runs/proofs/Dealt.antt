@@ -6,8 +6,7 @@ use Rattle.std.proofs.lemmas.List.FromFn.{length-map-range_with_len, get_or-map-
 use Rattle.std.proofs.ByRecursion.{All-take, All-drop, All-get_or, All-map}
 use Rattle.std.proofs.lemmas.List.{length-take-le}
 use Rattle.std.proofs.lemmas.Bool.{eq-eqb, lt-ltb, cond-true}
-use Rattle.algebra.proofs.Counting.{all_from_in, in_map_back}
-use Rattle.algebra.proofs.Polynomials.{all_with}
+use Rattle.algebra.proofs.Counting.{all_with, all_from_in, in_map_back}
 use Rattle.fields.specs.Doubled.{doubled, join}
 use Rattle.fields.specs.DoubledLaws.{doubled_laws}
 use Rattle.scheme.specs.Questions.{every}

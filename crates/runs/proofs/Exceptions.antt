@@ -1,6 +1,6 @@
 -- The choices under which some accepted altered card would go unnamed: few for each such card.
 -- Assumes nothing.
-use Rattle.std.proofs.Common.{◌≡◌, ℕ, ◌+◌, ◌-◌, ◌*◌, ◌^◌, ◌<◌, ◌≤◌, Bool, true, false, cond, not, ◌&&◌, ◌||◌, eqb, ◌⊎◌, List, [], ◌∷◌, ◌++◌, length, Some, None, filter, sym, refl, ap, ◌∙◌, subst, ap₂, inl, inr, true≢false, add-mul, one-mul, zero-add, arith, length-append}
+use Rattle.std.proofs.Common.{◌≡◌, ℕ, ◌+◌, ◌-◌, ◌*◌, ◌^◌, ◌<◌, ◌≤◌, Bool, true, false, cond, not, ◌&&◌, ◌||◌, eqb, ◌⊎◌, List, [], ◌∷◌, ◌++◌, length, Some, None, filter, sym, refl, ap, ◌∙◌, subst, ap₂, inl, inr, ⊎_elim, true≢false, add-mul, one-mul, zero-add, arith, length-append}
 use mathlib.Core.Bool.{false≢true}
 use native.Mathlib.Nat.{pow-le-pow_right}
 use Rattle.std.proofs.lemmas.Bool.{and_from, and_parts, or_cases, not-true, cases_Bool}
@@ -154,18 +154,14 @@ module _ (D : Deal) (group : List ℕ) (grp : Group D.figures group) where
               one_more _ w bound (length ih.0) (length one.0) (and_from _ _ p r) one.1 ih.1,
             ),
             extend (one.0 ++ ih.0) ih.0 past (just (present h y)) (λ c k. in_right one.0 ih.0 c k) ih.2
-                (λ i x e b c d s. either one.0 ih.0 c (after_present h i y x accepted _ e)
-                (λ z. one.2 c d (ap₂ (λ n card. strays D c (n, card)) z.1 z.2 ∙ s))
-                (λ z. ih.2 past (whole past) i x z b c d s)),
+                (λ i x e b c d s. ⊎_elim
+                (λ z. in_left one.0 ih.0 c (one.2 c d (ap₂ (λ n card. strays D c (n, card)) z.1 z.2 ∙ s)))
+                (λ z. in_right one.0 ih.0 c (ih.2 past (whole past) i x z b c d s)) (after_present h i y x accepted _ e)),
           )
         where
           member : Permitted codes figures group (just (present h y)) → In h group
           member (inl k) = k
           member (inr k) = absurd (true≢false (sym p ∙ ap not (k _)))
-
-          either : {A B : Type 0} (k l : List Choice) (c : Choice) → A ⊎ B → (A → In c k) → (B → In c l) → In c (k ++ l)
-          either k l c (inl a) g w = in_left k l c (g a)
-          either k l c (inr a) g w = in_right k l c (w a)
   exceptional (past then just (withdraw h)) permitted =
       let ih = exceptional past permitted.0 in
       same_cover past (just (withdraw h)) _ ih ih.1

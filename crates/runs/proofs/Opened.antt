@@ -9,8 +9,7 @@ use Rattle.std.proofs.ByRecursion.{All-get_or, all_kept_by, All-map, All-weaker}
 use Rattle.std.proofs.lemmas.Bool.{le-leb, eq-eqb, lt-leb, ltb-true, and_parts, not-true, cond-false, eqb-true, cond-true, false_from_ne_true}
 use Rattle.algebra.specs.Polynomial.{Apart}
 use Rattle.algebra.specs.Count.{In}
-use Rattle.algebra.proofs.Counting.{in_map_back}
-use Rattle.algebra.proofs.Polynomials.{all_with}
+use Rattle.algebra.proofs.Counting.{all_with, in_map_back}
 use Rattle.fields.specs.Laws.{Codes, DoublableLaws}
 use Rattle.fields.specs.Doubled.{doubled, join}
 use Rattle.fields.specs.Elements.{zero_below}

@@ -100,12 +100,9 @@ dealt_cards_open_lem D cards size alone buffer names first =
     (subst (λ l. figures.k ≤ length l) (sym (kept_all (λ a. not (strays D c a)) (lying cards) (λ a k. ap not (stays a k)))) first.enough)
     ∙ ap₂ (λ (l s : List ℕ). record { answer = Ok (length (lying cards), length l); key = s; names = l ++ replicate (length names - length l) 0 })
     (ap (map number) (kept_none (strays D c) (lying cards) stays)) (key_is D)
-    ∙ ap (λ n. record { answer = Ok (length (lying cards), 0); key = D.key; names = replicate n 0 }) (less_zero (length names))
+    ∙ ap (λ n. record { answer = Ok (length (lying cards), 0); key = D.key; names = replicate n 0 }) (omega arith)
   where
     open D use {codes, u, v, laws, figures}
-
-    less_zero : (n : ℕ) → n - 0 ≡ n
-    less_zero n = omega arith
 
     c : Choice
     c = dealt_choice D

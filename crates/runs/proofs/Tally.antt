@@ -34,15 +34,9 @@ each_from P a zero [] e h k = tt
 each_from P a zero (x ∷ l) e h k = absurd (omega arith)
 each_from P a (suc n) [] e h k = absurd (omega arith)
 each_from P a (suc n) (x ∷ l) e h k = (
-  subst (λ z. P z x) (first a) (k 0 (omega arith)),
-  each_from P (a + 1) n l e (omega arith) (λ j m. subst (λ z. P z (get_or l j e)) (next a j) (k (suc j) (omega arith))),
+  subst (λ z. P z x) (omega arith) (k 0 (omega arith)),
+  each_from P (a + 1) n l e (omega arith) (λ j m. subst (λ z. P z (get_or l j e)) (omega arith) (k (suc j) (omega arith))),
 )
-  where
-    first : (a : ℕ) → a + 0 ≡ a
-    first a = omega arith
-
-    next : (a j : ℕ) → a + suc j ≡ a + 1 + j
-    next a j = omega arith
 
 each_length : {A : Type 0} (P : ℕ → A → Type 0) (is : List ℕ) (l : List A) → AtEach P is l → length l ≡ length is
 each_length P [] l h = grind arith
