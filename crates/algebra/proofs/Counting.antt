@@ -156,11 +156,7 @@ module _ {A B C : Type 0} (f : A → B → C) (inj : (a a' : A) (b b' : B) → f
 -- the number of tuples is the product over the places
 pub exactly_each : {I A : Type 0} (P : I → A → Type 0) (n : I → ℕ) (is : List I) → ((i : I) → In i is → Exactly (n i) (P i))
     → Exactly (product n is) (AtEach P is)
-exactly_each P n [] x = exactly_one [] tt one
-  where
-    one : (l : List _) → AtEach P [] l → l ≡ []
-    one [] h = refl
-    one (a ∷ l) h = absurd h
+exactly_each P n [] x = exactly_one [] tt (λ l h. grind arith)
 exactly_each {A = A} P n (i ∷ is) x =
     exactly_with ◌∷◌ (λ a a' l l' e. (head-eq_of_cons-eq e, tail-eq_of_cons-eq e)) (λ a l p q. (p, q)) back (x i (inl refl))
     (exactly_each P n is (λ j k. x j (inr k)))
@@ -183,16 +179,8 @@ product_free q fixed (i ∷ is) = grind (arith, product_free q fixed is, pow-suc
 take_out : {A : Type 0} (l : List A) (a : A) → In a l
     → (r : List A) × (length l ≡ suc (length r)) × ((b : A) → (b ≡ a → ⊥) → In b l → In b r)
 take_out [] a h = absurd h
-take_out {A} (c ∷ l) a (inl e) = (l, refl, out)
-  where
-    out : (b : A) → (b ≡ a → ⊥) → In b (c ∷ l) → In b l
-    out b n (inl q) = absurd (n (q ∙ sym e))
-    out b n (inr k) = k
-take_out {A} (c ∷ l) a (inr h) = let t = take_out l a h in (c ∷ t.0, ap suc t.1, out t.0 t.2)
-  where
-    out : (r : List A) → ((b : A) → (b ≡ a → ⊥) → In b l → In b r) → (b : A) → (b ≡ a → ⊥) → In b (c ∷ l) → In b (c ∷ r)
-    out r k b n (inl q) = inl q
-    out r k b n (inr m) = inr (k b n m)
+take_out (c ∷ l) a (inl e) = (l, refl, λ b n k. grind arith)
+take_out (c ∷ l) a (inr h) = let t = take_out l a h in (c ∷ t.0, ap suc t.1, λ b n k. grind (arith, t.2 b n))
 
 -- a distinct list whose elements stand in another list is not longer
 pub at_most : {A : Type 0} (l r : List A) → Distinct l → AllByRecursion (λ a. In a r) l → length l ≤ length r

@@ -62,12 +62,9 @@ lying_collected : (i : ℕ) (cards : Cards) (o : ℕ → Option Card) → ((h : 
     → lying_from i cards ≡ collect o (range_with_len i (length cards))
 lying_collected i [] o e = refl
 lying_collected i (x ∷ cards) o e =
-    by x (ap (λ z. lying_from z cards) (sym (add-one i)) ∙ lying_collected (i + 1) cards o (λ h l. e (suc h) (omega arith) ∙ ap o (omega arith)))
-    ∙ ap (λ y. put y i (collect o (range_with_len (i + 1) (length cards)))) (e 0 (omega arith) ∙ ap o (omega arith))
-  where
-    by : (x : Option Card) → lying_from (suc i) cards ≡ collect o (range_with_len (i + 1) (length cards))
-        → lying_from i (x ∷ cards) ≡ put x i (collect o (range_with_len (i + 1) (length cards)))
-    by x h = grind arith
+    let rest = lying_collected (i + 1) cards o (λ h l. e (suc h) (omega arith) ∙ ap o (omega arith)) in
+    let here : x ≡ o i = e 0 (omega arith) ∙ ap o (omega arith) in
+    grind (arith, add-one i)
 
 -- on a table of n places, what lies are the cards of the numbers from 1 to n
 pub lying_is : (cards : Cards) (n : ℕ) → length cards ≡ n → lying cards ≡ collect (card_of cards) (range_with_len 1 n)

@@ -117,11 +117,8 @@ module _ (D : Deal) (group : List ℕ) (grp : Group D.figures group) where
   present_old : (h : ℕ) (y : Card) (accepted : Bool) (past : Run Move) → (accepted ≡ true → altered figures (dealt h) y ≡ true → ⊥)
       → (i : ℕ) (x : Card) → cond (eqb h i && accepted) (Some y) (lies codes figures (calls D (dealt_choice D) past) i) ≡ Some x
       → altered figures (dealt i) x ≡ true → Lies D (dealt_choice D) past i x
-  present_old h y accepted past none i x e a = by (after_present h i y x accepted _ e)
-    where
-      by : ((accepted ≡ true) × (h ≡ i) × (y ≡ x)) ⊎ Lies D (dealt_choice D) past i x → Lies D (dealt_choice D) past i x
-      by (inl r) = absurd (none r.0 (ap₂ (λ z w. altered figures (dealt z) w) r.1 r.2 ∙ a))
-      by (inr k) = k
+  present_old h y accepted past none i x e a =
+      ⊎_elim (λ r. absurd (none r.0 (ap₂ (λ z w. altered figures (dealt z) w) r.1 r.2 ∙ a))) (λ k. k) (after_present h i y x accepted _ e)
 
   pub exceptional : (script : Run Move) → Each (Permitted codes figures group) script → Exceptional script
   exceptional start permitted =

@@ -1,6 +1,6 @@
 -- The law over runs, and that every run of calls is a script's.
 -- Assumes nothing.
-use Rattle.std.proofs.Common.{◌≡◌, ℕ, ◌-◌, ◌^◌, ◌<◌, ◌≤◌, true, false, not, ◌⊎◌, List, [], length, filter, sym, refl, ap, ◌∙◌, subst, ap₂, inl, inr, true≢false, arith}
+use Rattle.std.proofs.Common.{◌≡◌, ℕ, ◌-◌, ◌^◌, ◌<◌, ◌≤◌, true, false, not, ◌⊎◌, List, [], length, filter, sym, refl, ap, ◌∙◌, subst, ap₂, inl, inr, ⊎_elim, true≢false, arith}
 use Rattle.std.proofs.lemmas.Bool.{eq-eqb, false_from_ne_true, true_from_ne_false}
 use Rattle.algebra.specs.Count.{In, Exactly}
 use Rattle.algebra.proofs.Counting.{all_in, exactly_iff}
@@ -42,14 +42,13 @@ module _ (D : Deal) (group : List ℕ) (grp : Group D.figures group) where
 
     -- a card with an altered value is one of the group's
     altered_member : (i : ℕ) (x : Card) → Lies D c past i x → 1 ≤ altered_values figures (card_under D c i) x → In i group
-    altered_member i x e some = by (lying_kinds D group c hc past permitted i x e)
+    altered_member i x e some = ⊎_elim (λ m. m) (λ z. absurd (as_dealt z)) (lying_kinds D group c hc past permitted i x e)
       where
-        by : In i group ⊎ (x ≡ card_under D c i) → In i group
-        by (inl m) = m
-        by (inr z) =
+        as_dealt : x ≡ card_under D c i → ⊥
+        as_dealt z =
             let none : filter (value_altered (card_under D c i) x) (places figures) ≡ [] =
             kept_none _ (places figures) (λ j _. ap not (eq-eqb _ _ (ap (λ y. (pair_at y j).value) z))) in
-            absurd (omega (arith, ap length none))
+            omega (arith, ap length none)
 
     unnamed_choices : (i : ℕ) (x : Card) → Lies D c past i x → 1 ≤ altered_values figures (card_under D c i) x
         → ((j : ℕ) → j < figures.d → value_altered (card_under D c i) x j ≡ false → tag_altered (card_under D c i) x j ≡ false)

@@ -1,6 +1,6 @@
 -- Which cards lie after a run of calls.
 -- Assumes nothing.
-use Rattle.std.proofs.Common.{◌≡◌, ℕ, Bool, true, false, cond, not, ◌&&◌, eqb, ◌⊎◌, [], ◌∷◌, ◌++◌, is_some, Some, None, Option, sym, refl, ap, ◌∙◌, subst, ap₂, inl, inr, true≢false, arith}
+use Rattle.std.proofs.Common.{◌≡◌, ℕ, Bool, true, false, cond, not, ◌&&◌, eqb, ◌⊎◌, [], ◌∷◌, ◌++◌, is_some, Some, None, Option, sym, refl, ap, ◌∙◌, subst, ap₂, inl, inr, ⊎_elim, true≢false, arith}
 use mathlib.Core.Bool.{false≢true}
 use Rattle.std.proofs.lemmas.Bool.{eqb-true, eq-eqb, cases_Bool, cond-true, cond-false}
 use Rattle.std.proofs.lemmas.Option.{none-some}
@@ -74,14 +74,12 @@ module _ (C : Codes) (u v : ℕ) (f : Figures) where
   was_laid_down : (i : ℕ) (card : Card) (run : Run Call) → lies C f run i ≡ Some card → LaidDown C u v f run i card
   was_laid_down i card start e = cc
   was_laid_down i card (run then present h x) e =
-      by (after_present h i x card (present_accepted C f (lies C f run h) h x) (lies C f run i) e) (was_laid_down i card run)
-    where
-      by : ((present_accepted C f (lies C f run h) h x ≡ true) × (h ≡ i) × (x ≡ card)) ⊎ (lies C f run i ≡ Some card)
-          → (lies C f run i ≡ Some card → LaidDown C u v f run i card) → LaidDown C u v f (run then present h x) i card
-      by (inl r) ih =
-          let same = ap₂ present r.1 r.2 in
-          (run, subst (λ call. accepted C u v f run call ≡ true) same (present_same run h x ∙ r.0), inl (ap (λ call. run then call) (sym same)))
-      by (inr k) ih = longer i card run (present h x) refl (ih k)
+      ⊎_elim
+      (λ r.
+      let same = ap₂ present r.1 r.2 in
+      (run, subst (λ call. accepted C u v f run call ≡ true) same (present_same run h x ∙ r.0), inl (ap (λ call. run then call) (sym same))))
+      (λ k. longer i card run (present h x) refl (was_laid_down i card run k))
+      (after_present h i x card (present_accepted C f (lies C f run h) h x) (lies C f run i) e)
   was_laid_down i card (run then withdraw h) e =
       let kept : lies C f run i ≡ Some card = grind arith in
       let refused : (eqb h i && withdraw_accepted C f (lies C f run h) h) ≡ false = grind arith in
