@@ -1,14 +1,15 @@
 -- The candidate of the decoder is the polynomial of t + 1 coefficients that misses at most t of at least 3·t + 1 points, if there is one.
 -- Assumes nothing.
-use Rattle.std.proofs.Common.{◌≡◌, ℕ, zero, suc, ◌+◌, ◌*◌, ◌<◌, ◌≤◌, Bool, true, false, cond, not, T, leb, List, [], ◌∷◌, length, sym, refl, ap, ◌∙◌, subst, ap₂, arith, leb→le}
-use native.Mathlib.Decide.{dec_le}
+use Rattle.std.proofs.Common.{◌≡◌, ℕ, zero, suc, ◌+◌, ◌*◌, ◌<◌, ◌≤◌, Bool, true, false, cond, not, T, leb, List, [], ◌∷◌, length, sym, refl, ap, ◌∙◌, ap₂, arith, leb→le}
 use lib.Dec.{nleb→lt}
 use Rattle.std.specs.List.{AllByRecursion}
+use Rattle.std.proofs.lemmas.Bool.{cases_eq, cond_both, leb-true, leb-false}
 use Rattle.algebra.specs.Field.{Field}
 use Rattle.algebra.specs.Polynomial.{Apart, eval, plus, scale}
 use Rattle.algebra.specs.Decoder.{having, miss, missing, Zero, Ratio, State, discrepancy, errors, run, chosen, extended, empty, unless, collected, place, down, answer, Fit}
 use Rattle.algebra.proofs.Rules.{zero_mul, mul_zero, zero_factor}
-use Rattle.algebra.proofs.Polynomials.{all_with, sub_zero, fraction, eval_add_multiple, eval_times_root, length_times_root, same_list}
+use Rattle.algebra.proofs.Counting.{all_with}
+use Rattle.algebra.proofs.Polynomials.{sub_zero, fraction, eval_add_multiple, eval_times_root, length_times_root, same_list}
 use Rattle.algebra.proofs.Unique.{length_scale, length_plus_right, key_at, few_roots, lead_not_zero}
 use Rattle.algebra.proofs.Filter.{length_having}
 use Rattle.algebra.proofs.Decoding.{Inv, inv_run}
@@ -135,11 +136,7 @@ module _ {K : Type 0} (X : Field K) where
           (all_with (λ j a b. a ∙ sym b) k.places k.held.on k.right)
         where
           exact : (l : List I) → (length l ≤ t → length l ≡ missing root is) → length l ≤ suc t → length l ≡ suc t
-          exact l full short = by (dec_le (length l) t)
-            where
-              by : Dec (length l ≤ t) → length l ≡ suc t
-              by (yes u) = absurd (omega (arith, full u, enough))
-              by (no u) = omega arith
+          exact l full short = grind arith
 
     -- the decoder finds f, if f misses at most t of the 3·t + 1 points
     module _ (t : ℕ) (is : List I) (d : Apart x is) (enough : length is ≡ 3 * t + 1)
@@ -160,8 +157,14 @@ module _ {K : Type 0} (X : Field K) where
       -- and one of the two ratios is short
       pub right : (collected X x y (chosen X x y t t (run X x y t is)).bottom t is).top ≡ f
       right =
-          by (leb (length s.first.top) (t + t + 1)) (leb→le (length s.first.top) (t + t + 1))
-          (nleb→lt (length s.first.top) (t + t + 1))
+          cond_both (leb (length s.first.top) (t + t + 1)) s.first s.second (λ r. (collected X x y r.bottom t is).top ≡ f)
+          (λ e.
+          let l = leb-true _ _ e in
+          from_ratio s.first l (omega (arith, h.low_a)) (sat s.first h.sat_a) (λ zq ze. lead_not_zero X s.first.top h.lead_a zq))
+          (λ e.
+          let l = leb-false _ _ e in
+          from_ratio s.second (omega (arith, h.low_b, h.sum)) (omega (arith, h.sum)) (sat s.second h.sat_b)
+          (λ zq ze. lead_not_zero X s.second.bottom h.lead_b ze))
         where
           s : State X
           s = run X x y t is
@@ -173,35 +176,15 @@ module _ {K : Type 0} (X : Field K) where
               → AllByRecursion (λ i. eval X r.top (x i) ≡ y i ⊗ eval X r.bottom (x i)) is
           sat r k = all_with (λ i m _. sub_zero X _ _ m) is k k
 
-          by : (b : Bool) → (T b → length s.first.top ≤ t + t + 1) → (T (not b) → t + t + 1 < length s.first.top)
-              → (collected X x y (cond b s.first s.second).bottom t is).top ≡ f
-          by true le gt =
-              from_ratio s.first (le tt) (omega (arith, h.low_a, le tt)) (sat s.first h.sat_a)
-              (λ zq ze. lead_not_zero X s.first.top h.lead_a zq)
-          by false le gt =
-              from_ratio s.second (omega (arith, h.low_b, h.sum, gt tt)) (omega (arith, h.sum, gt tt))
-              (sat s.second h.sat_b) (λ zq ze. lead_not_zero X s.second.bottom h.lead_b ze)
-
 -- the first k of n points also have distinct abscissae, and no more of them are missed
 module _ {K : Type 0} (X : Field K) (x y : ℕ → K) where
   down_apart : (n k : ℕ) → k ≤ n → Apart x (down n) → Apart x (down k)
-  down_apart zero k l a = let e : k ≡ 0 = omega arith in subst (λ m. Apart x (down m)) (sym e) tt
-  down_apart (suc n) k l a = by (dec_le k n) (down_apart n k)
-    where
-      by : Dec (k ≤ n) → (k ≤ n → Apart x (down n) → Apart x (down k)) → Apart x (down k)
-      by (yes h) ih = ih h a.1
-      by (no h) ih = let e : k ≡ suc n = omega arith in subst (λ m. Apart x (down m)) (sym e) a
+  down_apart zero k l a = grind arith
+  down_apart (suc n) k l a = grind (arith, down_apart n k, cases_eq k (suc n))
 
   down_errors : (f : List K) (n k : ℕ) → k ≤ n → errors X x y f (down k) ≤ errors X x y f (down n)
-  down_errors f zero k l = let e : k ≡ 0 = omega arith in subst (λ m. errors X x y f (down m) ≤ 0) (sym e) (omega arith)
-  down_errors f (suc n) k l = by (dec_le k n) (down_errors f n k)
-    where
-      by : Dec (k ≤ n) → (k ≤ n → errors X x y f (down k) ≤ errors X x y f (down n))
-          → errors X x y f (down k) ≤ errors X x y f (down (suc n))
-      by (yes h) ih = omega (arith, ih h)
-      by (no h) ih =
-          let e : k ≡ suc n = omega arith in
-          subst (λ m. errors X x y f (down m) ≤ errors X x y f (down (suc n))) (sym e) (omega arith)
+  down_errors f zero k l = grind arith
+  down_errors f (suc n) k l = grind (arith, down_errors f n k, cases_eq k (suc n))
 
 pub length_down : (n : ℕ) → length (down n) ≡ n
 length_down zero = refl

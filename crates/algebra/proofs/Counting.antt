@@ -1,7 +1,7 @@
--- Counting: what stands in a list, how many things have a property after a bijection, how many pairs and tuples have one, and that
--- there is only one such number.
+-- Counting: what stands in a list, how many things have a property after a bijection, and how many pairs and tuples have
+-- one.
 -- Assumes nothing.
-use Rattle.std.proofs.Common.{◌≡◌, ℕ, suc, ◌+◌, ◌*◌, ◌^◌, ◌≤◌, Bool, true, false, cond, List, [], ◌∷◌, ◌++◌, map, length, sym, refl, ap, ◌∙◌, subst, ap₂, inl, inr, one-mul, zero-add, one-add, arith, length-append}
+use Rattle.std.proofs.Common.{◌≡◌, ℕ, suc, ◌+◌, ◌*◌, ◌^◌, ◌≤◌, Bool, cond, List, [], ◌∷◌, ◌++◌, map, length, filter, sym, refl, ap, ◌∙◌, subst, ap₂, inl, inr, arith, length-append}
 use mathlib.Core.List.{head-eq_of_cons-eq, tail-eq_of_cons-eq}
 use native.Mathlib.Nat.{pow-succ', pow-zero}
 use Rattle.std.specs.List.{AllByRecursion}
@@ -19,6 +19,11 @@ product n (i ∷ is) = n i * product n is
 abbrev pub free : {I : Type 0} → (I → Bool) → List I → ℕ
 free fixed [] = 0
 free fixed (i ∷ is) = cond (fixed i) 0 1 + free fixed is
+
+-- each of the places is fixed or not
+pub free_kept : {I : Type 0} (fixed : I → Bool) (is : List I) → free fixed is + length (filter fixed is) ≡ length is
+free_kept fixed [] = refl
+free_kept fixed (i ∷ is) = grind (arith, free_kept fixed is)
 
 -- what holds of each element of a list holds of what stands in it, and back
 pub all_in : {A : Type 0} (P : A → Type 0) (l : List A) (a : A) → AllByRecursion P l → In a l → P a
@@ -50,6 +55,11 @@ in_map_back f [] b h = absurd h
 in_map_back f (c ∷ l) b (inl e) = (c, inl refl, e)
 in_map_back f (c ∷ l) b (inr h) = let r = in_map_back f l b h in (r.0, inr r.1, r.2)
 
+-- where P and Q hold of each element of a list, so does what follows from both
+pub all_with : {A : Type 0} {P Q R : A → Type 0} → ((a : A) → P a → Q a → R a) → (l : List A) → AllByRecursion P l → AllByRecursion Q l → AllByRecursion R l
+all_with k [] p q = tt
+all_with k (a ∷ l) p q = (k a p.0 q.0, all_with k l p.1 q.1)
+
 pub in_self : {A : Type 0} (l : List A) → AllByRecursion (λ a. In a l) l
 in_self l = all_from_in l (λ a k. k)
 
@@ -57,12 +67,8 @@ in_self l = all_from_in l (λ a k. k)
 pub apart_map : {A B : Type 0} {P : A → Type 0} (f : A → B) → ((a b : A) → P a → P b → f a ≡ f b → a ≡ b) → (l : List A) → AllByRecursion P l
     → Distinct l → Distinct (map f l)
 apart_map f inj [] p d = tt
-apart_map {B = B} f inj (a ∷ l) p d = (all_from_in (map f l) other, apart_map f inj l p.1 d.1)
-  where
-    other : (b : B) → In b (map f l) → b ≡ f a → ⊥
-    other b k e =
-        let r = in_map_back f l b k in
-        all_in _ l r.0 d.0 r.1 (inj r.0 a (all_in _ l r.0 p.1 r.1) p.0 (sym r.2 ∙ e))
+apart_map f inj (a ∷ l) p d =
+    (All-map (λ b. b ≡ f a → ⊥) f l (all_with (λ b n pb e. n (inj b a pb p.0 e)) l d.0 p.1), apart_map f inj l p.1 d.1)
 
 -- two distinct lists with no common element make a distinct list
 pub apart_append : {A : Type 0} (l r : List A) → Distinct l → Distinct r → ((a : A) → In a l → In a r → ⊥) → Distinct (l ++ r)
@@ -150,11 +156,7 @@ module _ {A B C : Type 0} (f : A → B → C) (inj : (a a' : A) (b b' : B) → f
 -- the number of tuples is the product over the places
 pub exactly_each : {I A : Type 0} (P : I → A → Type 0) (n : I → ℕ) (is : List I) → ((i : I) → In i is → Exactly (n i) (P i))
     → Exactly (product n is) (AtEach P is)
-exactly_each P n [] x = exactly_one [] tt one
-  where
-    one : (l : List _) → AtEach P [] l → l ≡ []
-    one [] h = refl
-    one (a ∷ l) h = absurd h
+exactly_each P n [] x = exactly_one [] tt (λ l h. grind arith)
 exactly_each {A = A} P n (i ∷ is) x =
     exactly_with ◌∷◌ (λ a a' l l' e. (head-eq_of_cons-eq e, tail-eq_of_cons-eq e)) (λ a l p q. (p, q)) back (x i (inl refl))
     (exactly_each P n is (λ j k. x j (inr k)))
@@ -171,39 +173,19 @@ product_same q (i ∷ is) = ap (λ z. q * z) (product_same q is) ∙ sym (pow-su
 -- the product of q over the places that are not fixed and of 1 over the others
 pub product_free : {I : Type 0} (q : ℕ) (fixed : I → Bool) (is : List I) → product (λ i. cond (fixed i) 1 q) is ≡ q ^ free fixed is
 product_free q fixed [] = sym (pow-zero q)
-product_free q fixed (i ∷ is) = go (fixed i) (product_free q fixed is)
-  where
-    go : (b : Bool) → product (λ i. cond (fixed i) 1 q) is ≡ q ^ free fixed is
-        → cond b 1 q * product (λ i. cond (fixed i) 1 q) is ≡ q ^ (cond b 0 1 + free fixed is)
-    go true ih = simp (one-mul, zero-add) ih
-    go false ih = simp (one-add, pow-succ') (ap (λ z. q * z) ih)
+product_free q fixed (i ∷ is) = grind (arith, product_free q fixed is, pow-succ' q (free fixed is))
 
 -- a list without an element that stands in it
 take_out : {A : Type 0} (l : List A) (a : A) → In a l
     → (r : List A) × (length l ≡ suc (length r)) × ((b : A) → (b ≡ a → ⊥) → In b l → In b r)
 take_out [] a h = absurd h
-take_out {A} (c ∷ l) a (inl e) = (l, refl, out)
-  where
-    out : (b : A) → (b ≡ a → ⊥) → In b (c ∷ l) → In b l
-    out b n (inl q) = absurd (n (q ∙ sym e))
-    out b n (inr k) = k
-take_out {A} (c ∷ l) a (inr h) = let t = take_out l a h in (c ∷ t.0, ap suc t.1, out t.0 t.2)
-  where
-    out : (r : List A) → ((b : A) → (b ≡ a → ⊥) → In b l → In b r) → (b : A) → (b ≡ a → ⊥) → In b (c ∷ l) → In b (c ∷ r)
-    out r k b n (inl q) = inl q
-    out r k b n (inr m) = inr (k b n m)
+take_out (c ∷ l) a (inl e) = (l, refl, λ b n k. grind arith)
+take_out (c ∷ l) a (inr h) = let t = take_out l a h in (c ∷ t.0, ap suc t.1, λ b n k. grind (arith, t.2 b n))
 
 -- a distinct list whose elements stand in another list is not longer
 pub at_most : {A : Type 0} (l r : List A) → Distinct l → AllByRecursion (λ a. In a r) l → length l ≤ length r
 at_most [] r d h = omega arith
 at_most (a ∷ l) r d h =
     let t = take_out r a h.0 in
-    let k = at_most l t.0 d.1 (all_from_in l (λ b m. t.2 b (all_in _ l b d.0 m) (all_in _ l b h.1 m))) in
+    let k = at_most l t.0 d.1 (all_with t.2 l d.0 h.1) in
     omega (arith, t.1)
-
--- there is only one number of things that have a property
-pub exactly_same : {A : Type 0} {m n : ℕ} {P : A → Type 0} → Exactly m P → Exactly n P → m ≡ n
-exactly_same x y =
-    let a = at_most x.list y.list x.apart (all_from_in x.list (λ b k. y.complete b (all_in _ x.list b x.sound k))) in
-    let b = at_most y.list x.list y.apart (all_from_in y.list (λ b k. x.complete b (all_in _ y.list b y.sound k))) in
-    omega (arith, x.count, y.count)

@@ -3,6 +3,7 @@
 use Rattle.std.proofs.Common.{◌≡◌, ℕ, zero, suc, ◌+◌, ◌^◌, List, [], ◌∷◌, length, sym, refl, ap, subst, arith}
 use mathlib.Core.List.{head-eq_of_cons-eq, tail-eq_of_cons-eq}
 use native.Mathlib.Nat.{pow-succ', pow-zero}
+use Rattle.std.proofs.lemmas.List.{nil_from_length}
 use Rattle.algebra.specs.Field.{Field}
 use Rattle.algebra.specs.Polynomial.{Apart, curve, Through}
 use Rattle.algebra.specs.Count.{Exactly}
@@ -11,11 +12,7 @@ use Rattle.algebra.proofs.Counting.{exactly_map, exactly_one, exactly_with}
 
 -- of q things there are q^s lists of s elements
 pub exactly_lists : {K : Type 0} (q : ℕ) → Exactly q (λ (k : K). Unit {0}) → (s : ℕ) → Exactly (q ^ s) (λ (f : List K). length f ≡ s)
-exactly_lists {K} q x zero = subst (λ z. Exactly z (λ (f : List K). length f ≡ 0)) (sym (pow-zero q)) (exactly_one [] refl only)
-  where
-    only : (f : List K) → length f ≡ 0 → f ≡ []
-    only [] e = refl
-    only (c ∷ f) e = absurd (omega arith)
+exactly_lists {K} q x zero = subst (λ z. Exactly z (λ (f : List K). length f ≡ 0)) (sym (pow-zero q)) (exactly_one [] refl nil_from_length)
 exactly_lists {K} q x (suc s) =
     subst (λ z. Exactly z (λ (f : List K). length f ≡ suc s)) (sym (pow-succ' q s))
     (exactly_with ◌∷◌ (λ a b l r e. (head-eq_of_cons-eq e, tail-eq_of_cons-eq e)) (λ a l _ e. ap suc e) back x (exactly_lists q x s))

@@ -8,7 +8,8 @@ use Rattle.algebra.specs.Polynomial.{eval, plus, scale, lin, times_root}
 use Rattle.algebra.specs.Decoder.{Lead, Ratio, State, start, raise, add_multiple_lem, discrepancy, move, step, run}
 use Rattle.algebra.proofs.Rules.{mul_zero}
 use Rattle.algebra.proofs.Normal.{v, :0, :1, ◌:+◌, ◌:-◌, ◌:*◌, :-◌, ring, ring_from}
-use Rattle.algebra.proofs.Polynomials.{all_with, eval_add_multiple, eval_times_root, length_lin, length_times_root, times_root_within}
+use Rattle.algebra.proofs.Counting.{all_with}
+use Rattle.algebra.proofs.Polynomials.{eval_add_multiple, eval_times_root, length_lin, length_times_root, times_root_within}
 use Rattle.algebra.proofs.Unique.{length_scale, length_plus_le, length_plus_left}
 
 module _ {K : Type 0} (F : Field K) where

@@ -1,40 +1,23 @@
--- The offer of a point at a root of f and at another abscissa, and how many coefficients the bottom of a collected ratio has at most.
+-- The offer of a point: what it leaves where the abscissa is a root and where the point is taken, and how many coefficients the bottom of a collected ratio has at most.
 -- Assumes nothing.
-use Rattle.std.proofs.Common.{◌≡◌, ℕ, suc, ◌<◌, ◌≤◌, Bool, true, false, cond, not, T, leb, List, [], ◌∷◌, length, refl, arith}
-use lib.Dec.{nleb→lt}
+use Rattle.std.proofs.Common.{◌≡◌, ℕ, suc, ◌≤◌, List, [], ◌∷◌, length, arith}
 use Rattle.algebra.specs.Field.{Field}
 use Rattle.algebra.specs.Polynomial.{eval}
-use Rattle.algebra.specs.Decoder.{Ratio, extended, unless, offered, collected}
+use Rattle.algebra.specs.Decoder.{Ratio, extended, offered, collected}
 use Rattle.algebra.proofs.Polynomials.{times_root_within}
 
 module _ {K : Type 0} (X : Field K) (f : List K) (t : ℕ) (p : Ratio X) (x y : K) where
   -- the abscissa is a root of f
   pub offer_zero : eval X f x ≡ X.zero → offered X f t p x y ≡ p
-  offer_zero e = go (leb (length p.top) t) (X.same (eval X f x) X.zero)
-    where
-      go : (b : Bool) (d : Dec (eval X f x ≡ X.zero)) → cond b (unless X d p (extended X p x y)) p ≡ p
-      go false d = refl
-      go true (yes h) = refl
-      go true (no n) = absurd (n e)
+  offer_zero e = grind arith
 
   -- the point is taken
   pub offer_taken : length p.top ≤ t → (eval X f x ≡ X.zero → ⊥) → offered X f t p x y ≡ extended X p x y
-  offer_taken l k = go (leb (length p.top) t) (nleb→lt (length p.top) t) (X.same (eval X f x) X.zero)
-    where
-      go : (b : Bool) → (T (not b) → t < length p.top) → (d : Dec (eval X f x ≡ X.zero))
-          → cond b (unless X d p (extended X p x y)) p ≡ extended X p x y
-      go false h d = absurd (omega (arith, h tt))
-      go true h (yes e) = absurd (k e)
-      go true h (no n) = refl
+  offer_taken l k = grind arith
 
 module _ {K : Type 0} (X : Field K) where
   pub offered_short : (f : List K) (t n : ℕ) (p : Ratio X) (x y : K) → length p.bottom ≤ n → length (offered X f t p x y).bottom ≤ suc n
-  offered_short f t n p x y l = go (leb (length p.top) t) (X.same (eval X f x) X.zero)
-    where
-      go : (b : Bool) (d : Dec (eval X f x ≡ X.zero)) → length (cond b (unless X d p (extended X p x y)) p).bottom ≤ suc n
-      go false d = omega arith
-      go true (yes h) = omega arith
-      go true (no k) = times_root_within X x p.bottom n l
+  offered_short f t n p x y l = grind (arith, times_root_within X x p.bottom n l)
 
   pub collected_short : {I : Type 0} (x y : I → K) (f : List K) (t : ℕ) (is : List I)
       → length (collected X x y f t is).bottom ≤ suc (length is)

@@ -1,8 +1,8 @@
 -- The step of the decoder in each of its four cases, and how many coefficients the ratios of a run have at most.
 -- Assumes nothing.
-use Rattle.std.proofs.Common.{◌≡◌, ℕ, suc, ◌+◌, ◌<◌, ◌≤◌, Bool, true, false, not, T, ltb, List, [], ◌∷◌, length, refl, arith, ltb→lt, nltb→le}
+use Rattle.std.proofs.Common.{◌≡◌, ℕ, suc, ◌+◌, ◌<◌, ◌≤◌, Bool, true, false, ltb, List, [], ◌∷◌, length, arith}
 use Rattle.algebra.specs.Field.{Field}
-use Rattle.algebra.specs.Polynomial.{plus, scale}
+use Rattle.algebra.specs.Polynomial.{plus, scale, times_root}
 use Rattle.algebra.specs.Decoder.{State, raise, add_multiple_lem, discrepancy, move, step, run}
 use Rattle.algebra.proofs.Polynomials.{times_root_within}
 use Rattle.algebra.proofs.Unique.{length_scale, length_plus_le}
@@ -28,46 +28,21 @@ module _ {K : Type 0} (X : Field K) (x y : K) (t : ℕ) (s : State X) where
 
   -- the first discrepancy is zero
   pub step_a : da ≡ 𝟘 → next ≡ record { first = s.first; second = raise X x s.second }
-  step_a h = go (same da 𝟘)
-    where
-      go : (e : Dec (da ≡ 𝟘)) → move X s x da db e (same db 𝟘) test ≡ record { first = s.first; second = raise X x s.second }
-      go (yes e) = refl
-      go (no n) = absurd (n h)
+  step_a h = grind arith
 
   -- only the second discrepancy is zero
   pub step_b : (da ≡ 𝟘 → ⊥) → db ≡ 𝟘 → next ≡ record { first = raise X x s.first; second = s.second }
-  step_b k h = go (same da 𝟘) (same db 𝟘)
-    where
-      go : (e : Dec (da ≡ 𝟘)) (f : Dec (db ≡ 𝟘)) → move X s x da db e f test ≡ record { first = raise X x s.first; second = s.second }
-      go (yes e) f = absurd (k e)
-      go (no n) (yes f) = refl
-      go (no n) (no m) = absurd (m h)
+  step_b k h = grind arith
 
   -- neither is zero, and the first ratio is raised
   pub step_less : (da ≡ 𝟘 → ⊥) → (db ≡ 𝟘 → ⊥) → length s.first.top < length s.second.bottom + t
       → next ≡ record { first = raise X x s.first; second = add_multiple_lem X s.second (⊖ (db ⊗ inv da)) s.first }
-  step_less k h l = go (same da 𝟘) (same db 𝟘) test (nltb→le (length s.first.top) (length s.second.bottom + t))
-    where
-      go : (e : Dec (da ≡ 𝟘)) (f : Dec (db ≡ 𝟘)) (b : Bool) → (T (not b) → length s.second.bottom + t ≤ length s.first.top)
-          → move X s x da db e f b
-          ≡ record { first = raise X x s.first; second = add_multiple_lem X s.second (⊖ (db ⊗ inv da)) s.first }
-      go (yes e) f b ge = absurd (k e)
-      go (no n) (yes f) b ge = absurd (h f)
-      go (no n) (no m) true ge = refl
-      go (no n) (no m) false ge = absurd (omega (arith, ge tt))
+  step_less k h l = grind arith
 
   -- neither is zero, and the second ratio is raised
   pub step_more : (da ≡ 𝟘 → ⊥) → (db ≡ 𝟘 → ⊥) → length s.second.bottom + t ≤ length s.first.top
       → next ≡ record { first = add_multiple_lem X s.first (⊖ (da ⊗ inv db)) s.second; second = raise X x s.second }
-  step_more k h l = go (same da 𝟘) (same db 𝟘) test (ltb→lt (length s.first.top) (length s.second.bottom + t))
-    where
-      go : (e : Dec (da ≡ 𝟘)) (f : Dec (db ≡ 𝟘)) (b : Bool) → (T b → length s.first.top < length s.second.bottom + t)
-          → move X s x da db e f b
-          ≡ record { first = add_multiple_lem X s.first (⊖ (da ⊗ inv db)) s.second; second = raise X x s.second }
-      go (yes e) f b lt = absurd (k e)
-      go (no n) (yes f) b lt = absurd (h f)
-      go (no n) (no m) false lt = refl
-      go (no n) (no m) true lt = absurd (omega (arith, lt tt))
+  step_more k h l = grind arith
 
 module _ {K : Type 0} (X : Field K) where
   -- no polynomial of the state has more than n coefficients
@@ -75,42 +50,25 @@ module _ {K : Type 0} (X : Field K) where
   Short n s =
       (length s.first.top ≤ n) × (length s.first.bottom ≤ n) × (length s.second.top ≤ n) × (length s.second.bottom ≤ n)
 
-  plus_suc : (c : K) (f g : List K) (n : ℕ) → length f ≤ n → length g ≤ n → length (plus X f (scale X c g)) ≤ suc n
-  plus_suc c f g n lf lg = let h = length_plus_le X n f (scale X c g) lf (omega (arith, length_scale X c g)) in omega arith
-
   module _ {I : Type 0} (x y : I → K) (t : ℕ) where
     pub step_short : (n : ℕ) (s : State X) (i : I) → Short n s → Short (suc n) (step X x y t s i)
     step_short n s i h =
         go (X.same (discrepancy X x y s.first i) X.zero) (X.same (discrepancy X x y s.second i) X.zero)
         (ltb (length s.first.top) (length s.second.bottom + t))
       where
+        raised : (f : List K) → length f ≤ n → length (times_root X (x i) f) ≤ suc n
+        raised f l = times_root_within X (x i) f n l
+
+        added : (c : K) (f g : List K) → length f ≤ n → length g ≤ n → length (plus X f (scale X c g)) ≤ suc n
+        added c f g lf lg = let h = length_plus_le X n f (scale X c g) lf (omega (arith, length_scale X c g)) in omega arith
+
         go : (e : Dec (discrepancy X x y s.first i ≡ X.zero)) (f : Dec (discrepancy X x y s.second i ≡ X.zero)) (b : Bool)
             → Short (suc n) (move X s (x i) (discrepancy X x y s.first i) (discrepancy X x y s.second i) e f b)
-        go (yes e) f b = (
-          omega (arith, h.0),
-          omega (arith, h.1),
-          times_root_within X (x i) s.second.top n h.2,
-          times_root_within X (x i) s.second.bottom n h.3,
-        )
-        go (no m) (yes f) b = (
-          times_root_within X (x i) s.first.top n h.0,
-          times_root_within X (x i) s.first.bottom n h.1,
-          omega (arith, h.2),
-          omega (arith, h.3),
-        )
-        go (no m) (no k) true = (
-          times_root_within X (x i) s.first.top n h.0,
-          times_root_within X (x i) s.first.bottom n h.1,
-          plus_suc _ s.second.top s.first.top n h.2 h.0,
-          plus_suc _ s.second.bottom s.first.bottom n h.3 h.1,
-        )
-        go (no m) (no k) false = (
-          plus_suc _ s.first.top s.second.top n h.0 h.2,
-          plus_suc _ s.first.bottom s.second.bottom n h.1 h.3,
-          times_root_within X (x i) s.second.top n h.2,
-          times_root_within X (x i) s.second.bottom n h.3,
-        )
+        go (yes e) f b = omega (arith, raised)
+        go (no m) (yes f) b = omega (arith, raised)
+        go (no m) (no k) true = omega (arith, raised, added)
+        go (no m) (no k) false = omega (arith, raised, added)
 
     pub run_short : (is : List I) → Short (suc (length is)) (run X x y t is)
-    run_short [] = (omega arith, omega arith, omega arith, omega arith)
+    run_short [] = omega arith
     run_short (i ∷ is) = step_short (suc (length is)) (run X x y t is) i (run_short is)

@@ -1,7 +1,7 @@
 -- A normal form of expressions over a commutative ring, so that an identity is proved by computing both sides:
 -- `ring F ρ e f tt`, where ρ has the values of the variables.
 -- Assumes nothing.
-use Rattle.std.proofs.Common.{◌≡◌, ℕ, Bool, true, false, cond, not, T, eqb, ltb, List, [], ◌∷◌, get_or, sym, refl, ap, ◌∙◌, ap₂, eqb→eq}
+use Rattle.std.proofs.Common.{◌≡◌, ℕ, Bool, true, false, cond, not, T, eqb, ltb, List, [], ◌∷◌, get_or, sym, refl, ap, ◌∙◌, ap₂, arith, eqb→eq}
 use Rattle.algebra.specs.Field.{Field}
 use Rattle.algebra.proofs.Rules.{zero_add, add_cancel, add_left_comm, mul_left_comm, add_mul, mul_zero, one_mul, zero_mul, neg_add, neg_zero, neg_neg, neg_sum, neg_mul, mul_neg}
 
@@ -102,30 +102,17 @@ monomials_equal→eq : (m n : Monomial) → T (monomials_equal m n) → m ≡ n
 monomials_equal→eq [] [] h = refl
 monomials_equal→eq [] (j ∷ n) h = absurd h
 monomials_equal→eq (i ∷ m) [] h = absurd h
-monomials_equal→eq (i ∷ m) (j ∷ n) h = go (eqb i j) (eqb→eq i j) (monomials_equal→eq m n) h
-  where
-    go : (b : Bool) → (T b → i ≡ j) → (T (monomials_equal m n) → m ≡ n) → T (cond b (monomials_equal m n) false) → ◌≡◌ {A = Monomial} (i ∷ m) (j ∷ n)
-    go true e ih k = ap₂ ◌∷◌ (e tt) (ih k)
-    go false e ih k = absurd k
+monomials_equal→eq (i ∷ m) (j ∷ n) h = grind (arith, eqb→eq i j, monomials_equal→eq m n)
 
 signs_equal→eq : (s r : Bool) → T (signs_equal s r) → s ≡ r
-signs_equal→eq true true h = refl
-signs_equal→eq true false h = absurd h
-signs_equal→eq false true h = absurd h
-signs_equal→eq false false h = refl
+signs_equal→eq s r h = grind arith
 
 forms_equal→eq : (p q : List Term) → T (forms_equal p q) → p ≡ q
 forms_equal→eq [] [] h = refl
 forms_equal→eq [] (u ∷ q) h = absurd h
 forms_equal→eq (t ∷ p) [] h = absurd h
 forms_equal→eq (signed s m ∷ p) (signed r n ∷ q) h =
-    go (signs_equal s r) (monomials_equal m n) (signs_equal→eq s r) (monomials_equal→eq m n) (forms_equal→eq p q) h
-  where
-    go : (a b : Bool) → (T a → s ≡ r) → (T b → m ≡ n) → (T (forms_equal p q) → p ≡ q)
-        → T (cond a (cond b (forms_equal p q) false) false) → ◌≡◌ {A = List Term} (signed s m ∷ p) (signed r n ∷ q)
-    go true true e f ih k = ap₂ ◌∷◌ (ap₂ signed (e tt) (f tt)) (ih k)
-    go true false e f ih k = absurd k
-    go false b e f ih k = absurd k
+    grind (arith, signs_equal→eq s r, monomials_equal→eq m n, forms_equal→eq p q)
 
 module _ {K : Type 0} (F : Field K) where
   open F use {zero as 𝟘, one as 𝟙, add as ◌⊕◌, mul as ◌⊗◌, neg as ⊖◌, add_assoc, add_zero, add_neg, mul_assoc, mul_one, mul_add}
@@ -159,12 +146,7 @@ module _ {K : Type 0} (F : Field K) where
 
     insert_is : (i : ℕ) (m : Monomial) → monomial_value (insert i m) ≡ get_or ρ i 𝟘 ⊗ monomial_value m
     insert_is i [] = refl
-    insert_is i (j ∷ m) = go (ltb j i) (insert_is i m)
-      where
-        go : (b : Bool) → monomial_value (insert i m) ≡ get_or ρ i 𝟘 ⊗ monomial_value m
-            → monomial_value (cond b (j ∷ insert i m) (i ∷ j ∷ m)) ≡ get_or ρ i 𝟘 ⊗ (get_or ρ j 𝟘 ⊗ monomial_value m)
-        go true ih = ap (λ z. get_or ρ j 𝟘 ⊗ z) ih ∙ mul_left_comm F (get_or ρ j 𝟘) (get_or ρ i 𝟘) (monomial_value m)
-        go false ih = refl
+    insert_is i (j ∷ m) = grind (arith, insert_is i m, mul_left_comm F (get_or ρ j 𝟘) (get_or ρ i 𝟘) (monomial_value m))
 
     times_monomial_is : (m n : Monomial) → monomial_value (times_monomial m n) ≡ monomial_value m ⊗ monomial_value n
     times_monomial_is [] n = sym (one_mul F (monomial_value n))
@@ -180,23 +162,15 @@ module _ {K : Type 0} (F : Field K) where
 
     add_term_is : (t : Term) (p : List Term) → form_value (add_term t p) ≡ term_value t ⊕ form_value p
     add_term_is t [] = refl
-    add_term_is (signed s m) (signed r n ∷ p) = go (monomials_equal m n) (before m n) (monomials_equal→eq m n) (add_term_is (signed s m) p)
-      where
-        opposite : (s r : Bool) → m ≡ n
-            → form_value (cond (signs_equal s r) (signed s m ∷ signed r n ∷ p) p) ≡ with_sign s (monomial_value m) ⊕ (with_sign r (monomial_value n) ⊕ form_value p)
-        opposite true true e = refl
-        opposite false false e = refl
-        opposite true false e = rw e (minus_plus (monomial_value n) (form_value p))
-        opposite false true e = rw e (plus_minus (monomial_value n) (form_value p))
-
-        go : (b c : Bool) → (T b → m ≡ n) → form_value (add_term (signed s m) p) ≡ with_sign s (monomial_value m) ⊕ form_value p
-            → form_value (cond b (cond (signs_equal s r) (signed s m ∷ signed r n ∷ p) p) (cond c (signed s m ∷ signed r n ∷ p) (signed r n ∷ add_term (signed s m) p)))
-            ≡ with_sign s (monomial_value m) ⊕ (with_sign r (monomial_value n) ⊕ form_value p)
-        go true c e ih = opposite s r (e tt)
-        go false true e ih = refl
-        go false false e ih =
-            ap (λ z. with_sign r (monomial_value n) ⊕ z) ih
-            ∙ add_left_comm F (with_sign r (monomial_value n)) (with_sign s (monomial_value m)) (form_value p)
+    add_term_is (signed s m) (signed r n ∷ p) =
+        grind (
+          arith,
+          add_term_is (signed s m) p,
+          monomials_equal→eq m n,
+          minus_plus (monomial_value n) (form_value p),
+          plus_minus (monomial_value n) (form_value p),
+          add_left_comm F (with_sign r (monomial_value n)) (with_sign s (monomial_value m)) (form_value p),
+        )
 
     add_form_is : (p q : List Term) → form_value (add_form p q) ≡ form_value p ⊕ form_value q
     add_form_is [] q = sym (zero_add F (form_value q))
@@ -205,10 +179,7 @@ module _ {K : Type 0} (F : Field K) where
         ∙ sym (add_assoc (term_value t) (form_value p) (form_value q))
 
     times_sign_is : (s r : Bool) (x y : K) → with_sign (signs_equal s r) (x ⊗ y) ≡ with_sign s x ⊗ with_sign r y
-    times_sign_is true true x y = refl
-    times_sign_is true false x y = sym (mul_neg F x y)
-    times_sign_is false true x y = sym (neg_mul F x y)
-    times_sign_is false false x y = sym (neg_mul F x (⊖ y) ∙ ap ⊖◌ (mul_neg F x y) ∙ neg_neg F (x ⊗ y))
+    times_sign_is s r x y = grind (arith, mul_neg F x y, neg_mul F x y, neg_mul F x (⊖ y), neg_neg F (x ⊗ y))
 
     times_term_is : (t u : Term) → term_value (times_term t u) ≡ term_value t ⊗ term_value u
     times_term_is (signed s m) (signed r n) =
@@ -227,8 +198,7 @@ module _ {K : Type 0} (F : Field K) where
         ∙ sym (add_mul F (term_value t) (form_value p) (form_value q))
 
     not_is : (s : Bool) (x : K) → with_sign (not s) x ≡ ⊖ (with_sign s x)
-    not_is true x = refl
-    not_is false x = sym (neg_neg F x)
+    not_is s x = grind (arith, neg_neg F x)
 
     negative_form_is : (p : List Term) → form_value (negative_form p) ≡ ⊖ (form_value p)
     negative_form_is [] = sym (neg_zero F)

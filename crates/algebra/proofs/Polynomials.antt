@@ -6,13 +6,9 @@ use mathlib.Core.List.{head-eq_of_cons-eq, tail-eq_of_cons-eq, nil≢cons, cons�
 use Rattle.std.specs.List.{AllByRecursion}
 use Rattle.algebra.specs.Field.{Field}
 use Rattle.algebra.specs.Polynomial.{Apart, eval, plus, scale, times, lin, times_root, quotient, curve, interpolated, Through}
+pub use Rattle.algebra.proofs.Counting.{all_with}
 use Rattle.algebra.proofs.Rules.{zero_add, add_cancel, mul_zero, one_mul, zero_mul}
 use Rattle.algebra.proofs.Normal.{v, :0, :1, ◌:+◌, ◌:-◌, ◌:*◌, :-◌, ring, ring_from}
-
--- where P and Q hold of each element of a list, so does what follows from both
-pub all_with : {A : Type 0} {P Q R : A → Type 0} → ((a : A) → P a → Q a → R a) → (l : List A) → AllByRecursion P l → AllByRecursion Q l → AllByRecursion R l
-all_with k [] p q = tt
-all_with k (a ∷ l) p q = (k a p.0 q.0, all_with k l p.1 q.1)
 
 module _ {K : Type 0} (F : Field K) where
   open F use {zero as 𝟘, add as ◌⊕◌, mul as ◌⊗◌, neg as ⊖◌, inv, add_assoc, add_comm, add_zero, mul_assoc, mul_comm, mul_inv}

@@ -1,6 +1,6 @@
 -- The proofs of the theorems on polynomials over every finite field.
 -- Assumes nothing.
-use Rattle.std.proofs.Common.{◌≡◌, ℕ, zero, suc, ◌+◌, ◌-◌, ◌*◌, ◌^◌, ◌<◌, ◌≤◌, Bool, true, false, cond, List, [], ◌∷◌, map, length, is_some, Some, None, filter, Option, sym, refl, ap, ◌∙◌, subst, inl, inr, mul-one, arith}
+use Rattle.std.proofs.Common.{◌≡◌, ℕ, zero, suc, ◌+◌, ◌-◌, ◌*◌, ◌^◌, ◌<◌, ◌≤◌, cond, List, [], ◌∷◌, map, length, is_some, Some, None, filter, Option, sym, refl, ap, ◌∙◌, subst, inl, inr, mul-one, arith}
 use mathlib.Core.HLevel.{Σ_prop_path}
 use native.Mathlib.Bridge.{le_prop}
 use native.Mathlib.Nat.{pow-zero, pow-succ'}
@@ -11,7 +11,7 @@ use Rattle.algebra.specs.Polynomial.{Apart, eval}
 use Rattle.algebra.specs.Count.{In, Exactly, AtEach}
 use Rattle.algebra.specs.Decoder.{errors}
 use Rattle.algebra.specs.Theorems.{abscissa, ordinate, Passes, agreements, AgreementIsEquality, OneInterpolates, ExactlyQPass, Given, with_further, all_points, DistinctPoints, ExactlyTheseTuples, OneDecodes}
-use Rattle.algebra.proofs.Counting.{all_in, all_from_in, in_map, in_map_back, apart_map, exactly_iff, exactly_each, free, product_free}
+use Rattle.algebra.proofs.Counting.{all_in, all_from_in, in_map, in_map_back, apart_map, exactly_iff, exactly_each, free, free_kept, product_free}
 use Rattle.algebra.proofs.Curves.{exactly_curves}
 use Rattle.algebra.proofs.Filter.{length_having}
 use Rattle.algebra.proofs.Polynomials.{same_list}
@@ -36,16 +36,13 @@ exactly_below (suc q) =
         all_from_in (map (below_suc q) x.list)
             (λ b k e. let r = in_map_back (below_suc q) x.list b k in omega (arith, ap (λ z. z.0) (sym r.2 ∙ e))),
         apart_map {P = λ _. Unit {0}} (below_suc q)
-            (λ a b _ _ e. Σ_prop_path (λ n. le_prop) (suc_inj a.0 b.0 (ap (λ z. z.0) e))) x.list x.sound x.apart,
+            (λ a b _ _ e. Σ_prop_path (λ n. le_prop) (omega (arith, ap (λ z. z.0) e))) x.list x.sound x.apart,
       );
       count = ap suc (length-map x.list (below_suc q) ∙ x.count);
       sound = (tt, all_from_in (map (below_suc q) x.list) (λ _ _. tt));
       complete = λ k _. found x.list x.complete k.0 k.1;
     }
   where
-    suc_inj : (a b : ℕ) → suc a ≡ suc b → a ≡ b
-    suc_inj a b e = omega arith
-
     found : (l : List (Below q)) → ((a : Below q) → Unit {0} → In a l) → (n : ℕ) (h : n < suc q)
         → In {A = Below (suc q)} (n, h) (below_zero q ∷ map (below_suc q) l)
     found l c zero h = inl (Σ_prop_path (λ n. le_prop) refl)
@@ -81,18 +78,7 @@ exactly_q_pass_lem q F points d = q_pass q F points d
 -- the places without a further point are all but those with one
 free_places : {K : Type 0} (places : List (Given K))
     → free (λ g. is_some g.further) places ≡ length places - length (filter (λ g. is_some g.further) places)
-free_places places = let h = both places in omega arith
-  where
-    both : {K : Type 0} (places : List (Given K))
-        → length (filter (λ g. is_some g.further) places) + free (λ g. is_some g.further) places ≡ length places
-    both [] = refl
-    both (g ∷ places) = by (is_some g.further) (both places)
-      where
-        by : (b : Bool) → length (filter (λ g. is_some g.further) places) + free (λ g. is_some g.further) places ≡ length places
-            → length (cond b (g ∷ filter (λ g. is_some g.further) places) (filter (λ g. is_some g.further) places))
-            + (cond b 0 1 + free (λ g. is_some g.further) places) ≡ suc (length places)
-        by true h = omega arith
-        by false h = omega arith
+free_places places = omega (arith, free_kept (λ g. is_some g.further) places)
 
 pub exactly_these_tuples_lem : ExactlyTheseTuples
 exactly_these_tuples_lem q F t places ok =

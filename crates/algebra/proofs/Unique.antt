@@ -2,7 +2,6 @@
 -- few of the points is q/e, and few of the points are at a root of e.
 -- Assumes nothing.
 use Rattle.std.proofs.Common.{◌≡◌, ℕ, zero, suc, ◌+◌, ◌*◌, ◌≤◌, List, [], ◌∷◌, map, length, sym, refl, ap, ◌∙◌, subst, ap₂, arith}
-use native.Mathlib.Decide.{dec_le}
 use Rattle.std.specs.List.{AllByRecursion}
 use Rattle.std.proofs.lemmas.List.{length-map}
 use Rattle.algebra.specs.Field.{Field}
@@ -10,7 +9,8 @@ use Rattle.algebra.specs.Polynomial.{Apart, eval, plus, scale, times}
 use Rattle.algebra.specs.Decoder.{having, Zero, Lead, errors}
 use Rattle.algebra.proofs.Rules.{mul_zero}
 use Rattle.algebra.proofs.Normal.{v, :0, ◌:+◌, ◌:*◌, ring}
-use Rattle.algebra.proofs.Polynomials.{all_with, mul_cancel, eval_times, agree, same_list}
+use Rattle.algebra.proofs.Counting.{all_with}
+use Rattle.algebra.proofs.Polynomials.{mul_cancel, eval_times, agree, same_list}
 use Rattle.algebra.proofs.Filter.{length_having, having_all, all_having, apart_having, missing_having}
 
 module _ {K : Type 0} (F : Field K) where
@@ -119,10 +119,8 @@ module _ {K : Type 0} (F : Field K) where
 
         -- so e has at most m roots among the abscissae
         pub few_roots : length (having dec_root is) ≤ m
-        few_roots = go (dec_le (suc m) (length (having dec_root is)))
-          where
-            go : Dec (suc m ≤ length (having dec_root is)) → length (having dec_root is) ≤ m
-            go (yes h) =
-                absurd (e_not_zero
-                (roots_zero x (having dec_root is) e (apart_having dec_root x is d) (omega arith) (having_all dec_root is)))
-            go (no h) = omega arith
+        few_roots =
+            let few : suc m ≤ length (having dec_root is) → ⊥ =
+            λ h. e_not_zero
+                (roots_zero x (having dec_root is) e (apart_having dec_root x is d) (omega arith) (having_all dec_root is)) in
+            omega (arith, few)

@@ -2,6 +2,7 @@
 -- Assumes nothing.
 use Rattle.std.proofs.Common.{◌≡◌, ℕ, ◌-◌, ◌<◌, ◌≤◌, Bool, true, false, not, eqb, leb, ◌⊎◌, List, [], ◌++◌, map, length, get_or, replicate, Some, None, Ok, Err, filter, Option, Result, sym, refl, ap, ◌∙◌, subst, ap₂, inl, inr, arith}
 use Rattle.std.proofs.lemmas.List.{length-map}
+use Rattle.std.proofs.lemmas.List.Elements.{filter_agree}
 use Rattle.std.proofs.lemmas.Bool.{leb-true, leb-false, eqb-true, not-false, cases_Bool, cond-true, cond-false}
 use Rattle.algebra.specs.Count.{In}
 use Rattle.scheme.specs.Questions.{first_no}
@@ -13,7 +14,6 @@ use Rattle.runs.specs.Cards.{Card, Cards, lying, settled}
 use Rattle.runs.specs.Opening.{Opening, pair_at, early_questions, late_questions, concluded, FirstThree}
 use Rattle.runs.specs.Runs.{Run, start, ◌then◌, Each, Beginning, present, withdraw, seal, reopen, opens, counts, shows, done, table, answers, lies, numbers_lying, altered, lies_altered, lies_unaltered, lying_altered, lying_unaltered}
 use Rattle.runs.specs.Law.{Deal, Group, Choice, Move, as_dealt, just, called, Permitted, card_under, calls, opening, Passes, Lies, Deals, Identifies}
-use Rattle.runs.proofs.Lists.{kept_same}
 use Rattle.runs.proofs.Collected.{number, tested, numbers_kept}
 use Rattle.runs.proofs.Tables.{table_lying, lying_length, lying_lies, table_present, table_withdraw, present_by, withdraw_by}
 use Rattle.runs.proofs.Opened.{few_clean, many_clean}
@@ -41,25 +41,13 @@ module _ (D : Deal) (group : List ℕ) (grp : Group D.figures group) (c : Choice
 
   -- the lying cards that stray are the altered ones
   stray_is : (i : ℕ) (x : Card) → Lies D c past i x → strays D c (i, x) ≡ altered figures (card_under D c i) x
-  stray_is i x e = by (altered figures (card_under D c i) x) refl
-    where
-      by : (b : Bool) → altered figures (card_under D c i) x ≡ b → strays D c (i, x) ≡ b
-      by true h = strict i x e h
-      by false h = unaltered_stays D c i x h
+  stray_is i x e = grind (arith, strict i x e, unaltered_stays D c i x)
 
   tested_altered : (i : ℕ) → tested (strays D c) (held i) i ≡ lies_altered figures (card_under D c i) (held i)
-  tested_altered i = by (held i) refl
-    where
-      by : (o : Option Card) → held i ≡ o → tested (strays D c) o i ≡ lies_altered figures (card_under D c i) o
-      by None e = refl
-      by (Some x) e = stray_is i x e
+  tested_altered i = grind (arith, stray_is i)
 
   tested_unaltered : (i : ℕ) → tested (λ a. not (strays D c a)) (held i) i ≡ lies_unaltered figures (card_under D c i) (held i)
-  tested_unaltered i = by (held i) refl
-    where
-      by : (o : Option Card) → held i ≡ o → tested (λ a. not (strays D c a)) o i ≡ lies_unaltered figures (card_under D c i) o
-      by None e = refl
-      by (Some x) e = ap not (stray_is i x e)
+  tested_unaltered i = grind (arith, stray_is i)
 
   -- the numbers whose cards lie altered, and those whose cards lie unaltered
   abbrev A : List ℕ
@@ -72,12 +60,12 @@ module _ (D : Deal) (group : List ℕ) (grp : Group D.figures group) (c : Choice
   numbers_of p = ap (λ l. map number (filter p l)) (table_lying codes figures u v (calls D c past)) ∙ numbers_kept held p (participants figures)
 
   strays_are : map number (filter (strays D c) on_table) ≡ A
-  strays_are = numbers_of (strays D c) ∙ kept_same _ _ (participants figures) (λ i _. tested_altered i)
+  strays_are = numbers_of (strays D c) ∙ filter_agree _ _ tested_altered (participants figures)
 
   clean_count : length (filter (λ a. not (strays D c a)) on_table) ≡ length U
   clean_count =
       sym (length-map (filter (λ a. not (strays D c a)) on_table) number)
-      ∙ ap length (numbers_of (λ a. not (strays D c a)) ∙ kept_same _ _ (participants figures) (λ i _. tested_unaltered i))
+      ∙ ap length (numbers_of (λ a. not (strays D c a)) ∙ filter_agree _ _ tested_unaltered (participants figures))
 
   module _ (buffer names : List ℕ) (pass : Passes D c past buffer names) where
     abbrev three : FirstThree figures (length on_table) buffer names
@@ -125,8 +113,7 @@ told (Some e) m = Err e
 
 settled_told : (C : Codes) (f : Figures) (r : Option ℕ) (T : Cards) (h : ℕ) (new : Option Card)
     → (settled C f r T h new).0 ≡ told r (length (lying (settled C f r T h new).1))
-settled_told C f None T h new = refl
-settled_told C f (Some e) T h new = refl
+settled_told C f r T h new = grind arith
 
 module _ (D : Deal) (group : List ℕ) (grp : Group D.figures group) (b c : Choice) (hb : Deals D group b) (hc : Deals D group c) where
   open D use {codes, u, v, figures, key}

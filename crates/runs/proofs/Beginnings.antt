@@ -3,12 +3,6 @@
 use Rattle.std.proofs.Common.{◌≡◌, ℕ, sym, refl, subst, inl, inr, arith}
 use Rattle.runs.specs.Runs.{Run, start, ◌then◌, Each, Beginning}
 
-pub not_start : {A : Type 0} (past : Run A) (a : A) → past then a ≡ start → ⊥
-not_start past a e = let z : ◌≡◌ {A = ℕ} 0 1 = cc in omega arith
-
-front : {A : Type 0} (past run : Run A) (a b : A) → past then a ≡ run then b → past ≡ run
-front past run a b e = cc
-
 -- a run begins with all of itself
 pub whole : {A : Type 0} (run : Run A) → Beginning run run
 whole start = refl
@@ -16,8 +10,8 @@ whole (run then a) = inl refl
 
 -- what is before one of its things is a beginning
 pub before : {A : Type 0} (past run : Run A) (a : A) → Beginning (past then a) run → Beginning past run
-before past start a e = absurd (not_start past a e)
-before past (run then b) a (inl e) = inr (subst (λ r. Beginning r run) (sym (front past run a b e)) (whole run))
+before past start a e = cc
+before past (run then b) a (inl e) = let same : run ≡ past = cc in inr (subst (λ r. Beginning r run) same (whole run))
 before past (run then b) a (inr e) = inr (before past run a e)
 
 -- what holds of each thing of a run holds of each at its beginning

@@ -1,6 +1,6 @@
 -- The cards on a table as the list of those that lie.
 -- Assumes nothing.
-use Rattle.std.proofs.Common.{◌≡◌, ℕ, suc, ◌+◌, ◌-◌, ◌<◌, Bool, true, false, cond, List, [], ◌∷◌, map, length, get_or, is_some, Some, None, filter, Option, sym, refl, ap, ◌∙◌, subst, ap₂, inl, inr, arith}
+use Rattle.std.proofs.Common.{◌≡◌, ℕ, suc, ◌+◌, ◌-◌, ◌<◌, Bool, true, false, cond, List, [], ◌∷◌, map, length, get_or, is_some, Some, None, filter, Option, sym, refl, ap, ◌∙◌, subst, ap₂, inl, inr, add-one, arith}
 use Rattle.std.specs.List.{range_with_len}
 use Rattle.algebra.specs.Polynomial.{Apart, Distinct}
 use Rattle.algebra.specs.Count.{In}
@@ -28,58 +28,30 @@ tested p (Some card) i = p (i, card)
 module _ (o : ℕ → Option Card) where
   pub in_collect : (is : List ℕ) (a : ℕ × Card) → In a (collect o is) → In a.0 is × (o a.0 ≡ Some a.1)
   in_collect [] a k = absurd k
-  in_collect (i ∷ is) a k = by (o i) refl (in_collect is a) k
-    where
-      by : (x : Option Card) → o i ≡ x → (In a (collect o is) → In a.0 is × (o a.0 ≡ Some a.1))
-          → In a (put x i (collect o is)) → In a.0 (i ∷ is) × (o a.0 ≡ Some a.1)
-      by None e ih k = let r = ih k in (inr r.0, r.1)
-      by (Some card) e ih (inl q) =
-          (inl (ap number q), ap o (ap number q) ∙ e ∙ ap (λ (z : ℕ × Card). Some z.1) (sym q))
-      by (Some card) e ih (inr k) = let r = ih k in (inr r.0, r.1)
+  in_collect (i ∷ is) a k = grind (arith, in_collect is a)
 
   pub collect_in : (is : List ℕ) (i : ℕ) (card : Card) → In i is → o i ≡ Some card → In (i, card) (collect o is)
   collect_in [] i card k e = absurd k
-  collect_in (h ∷ is) i card (inl q) e =
-      subst (λ x. In (i, card) (put x h (collect o is))) (sym (ap o (sym q) ∙ e)) (inl (ap (λ z. (z, card)) q))
-  collect_in (h ∷ is) i card (inr k) e = by (o h) (collect_in is i card k e)
-    where
-      by : (x : Option Card) → In (i, card) (collect o is) → In (i, card) (put x h (collect o is))
-      by None k = k
-      by (Some y) k = inr k
+  collect_in (h ∷ is) i card (inl q) e = grind arith
+  collect_in (h ∷ is) i card (inr k) e = grind (arith, collect_in is i card k e)
 
   pub apart_collect : (is : List ℕ) → Distinct is → Apart number (collect o is)
   apart_collect [] d = tt
-  apart_collect (i ∷ is) d = by (o i) (apart_collect is d.1)
-    where
-      by : (x : Option Card) → Apart number (collect o is) → Apart number (put x i (collect o is))
-      by None k = k
-      by (Some card) k = (all_from_in (collect o is) (λ a m e. all_in _ is a.0 d.0 (in_collect is a m).0 e), k)
+  apart_collect (i ∷ is) d =
+      grind (
+        arith,
+        apart_collect is d.1,
+        all_from_in {P = λ (a : ℕ × Card). a.0 ≡ i → ⊥} (collect o is) (λ a m e. all_in _ is a.0 d.0 (in_collect is a m).0 e),
+      )
 
   -- the numbers of the cards that pass a test
   pub numbers_kept : (p : ℕ × Card → Bool) (is : List ℕ) → map number (filter p (collect o is)) ≡ filter (λ i. tested p (o i) i) is
   numbers_kept p [] = refl
-  numbers_kept p (i ∷ is) = by (o i) (numbers_kept p is)
-    where
-      one : (b : Bool) (card : Card) → map number (filter p (collect o is)) ≡ filter (λ i. tested p (o i) i) is
-          → map number (cond b ((i, card) ∷ filter p (collect o is)) (filter p (collect o is)))
-          ≡ cond b (i ∷ filter (λ i. tested p (o i) i) is) (filter (λ i. tested p (o i) i) is)
-      one true card e = ap (λ l. i ∷ l) e
-      one false card e = e
-
-      by : (x : Option Card) → map number (filter p (collect o is)) ≡ filter (λ i. tested p (o i) i) is
-          → map number (filter p (put x i (collect o is)))
-          ≡ cond (tested p x i) (i ∷ filter (λ i. tested p (o i) i) is) (filter (λ i. tested p (o i) i) is)
-      by None e = e
-      by (Some card) e = one (p (i, card)) card e
+  numbers_kept p (i ∷ is) = grind (arith, numbers_kept p is)
 
   pub numbers_collected : (is : List ℕ) → map number (collect o is) ≡ filter (λ i. is_some (o i)) is
   numbers_collected [] = refl
-  numbers_collected (i ∷ is) = by (o i) (numbers_collected is)
-    where
-      by : (x : Option Card) → map number (collect o is) ≡ filter (λ i. is_some (o i)) is
-          → map number (put x i (collect o is)) ≡ cond (is_some x) (i ∷ filter (λ i. is_some (o i)) is) (filter (λ i. is_some (o i)) is)
-      by None e = e
-      by (Some card) e = ap (λ l. i ∷ l) e
+  numbers_collected (i ∷ is) = grind (arith, numbers_collected is)
 
 pub collect_same : (o p : ℕ → Option Card) (is : List ℕ) → ((i : ℕ) → In i is → o i ≡ p i) → collect o is ≡ collect p is
 collect_same o p [] h = refl
@@ -90,24 +62,14 @@ lying_collected : (i : ℕ) (cards : Cards) (o : ℕ → Option Card) → ((h : 
     → lying_from i cards ≡ collect o (range_with_len i (length cards))
 lying_collected i [] o e = refl
 lying_collected i (x ∷ cards) o e =
-    by x (ap (λ z. lying_from z cards) (next i) ∙ lying_collected (i + 1) cards o (λ h l. e (suc h) (omega arith) ∙ ap o (omega arith)))
-    ∙ ap (λ y. put y i (collect o (range_with_len (i + 1) (length cards)))) (e 0 (omega arith) ∙ ap o (omega arith))
-  where
-    next : (i : ℕ) → suc i ≡ i + 1
-    next i = omega arith
-
-    by : (x : Option Card) → lying_from (suc i) cards ≡ collect o (range_with_len (i + 1) (length cards))
-        → lying_from i (x ∷ cards) ≡ put x i (collect o (range_with_len (i + 1) (length cards)))
-    by None h = h
-    by (Some card) h = ap (λ l. (i, card) ∷ l) h
+    let rest = lying_collected (i + 1) cards o (λ h l. e (suc h) (omega arith) ∙ ap o (omega arith)) in
+    let here : x ≡ o i = e 0 (omega arith) ∙ ap o (omega arith) in
+    grind (arith, add-one i)
 
 -- on a table of n places, what lies are the cards of the numbers from 1 to n
 pub lying_is : (cards : Cards) (n : ℕ) → length cards ≡ n → lying cards ≡ collect (card_of cards) (range_with_len 1 n)
 lying_is cards n e =
-    lying_collected 1 cards (card_of cards) (λ h l. ap (λ z. get_or cards z None) (less h)) ∙ ap (λ z. collect (card_of cards) (range_with_len 1 z)) e
-  where
-    less : (h : ℕ) → h ≡ 1 + h - 1
-    less h = omega arith
+    lying_collected 1 cards (card_of cards) (λ h l. ap (λ z. get_or cards z None) (omega arith)) ∙ ap (λ z. collect (card_of cards) (range_with_len 1 z)) e
 
 -- no number has two cards
 pub lying_apart : (cards : Cards) → Apart number (lying cards)

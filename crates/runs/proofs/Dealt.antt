@@ -6,7 +6,7 @@ use Rattle.std.proofs.lemmas.List.FromFn.{length-map-range_with_len, get_or-map-
 use Rattle.std.proofs.ByRecursion.{All-take, All-drop, All-get_or, All-map}
 use Rattle.std.proofs.lemmas.List.{length-take-le}
 use Rattle.std.proofs.lemmas.Bool.{eq-eqb, lt-ltb, cond-true}
-use Rattle.algebra.proofs.Counting.{all_in, all_from_in, in_map_back}
+use Rattle.algebra.proofs.Counting.{all_with, all_from_in, in_map_back}
 use Rattle.fields.specs.Doubled.{doubled, join}
 use Rattle.fields.specs.DoubledLaws.{doubled_laws}
 use Rattle.scheme.specs.Questions.{every}
@@ -134,4 +134,4 @@ module _ (D : Deal) where
 
 -- the group has the same cards under two choices
 pub same_cards : (D : Deal) (group : List ℕ) (b c : Choice) → Deals D group b → Deals D group c → AllByRecursion (λ i. card_under D b i ≡ card_under D c i) group
-same_cards D group b c hb hc = all_from_in group (λ i m. all_in _ group i hb.same_cards m ∙ sym (all_in _ group i hc.same_cards m))
+same_cards D group b c hb hc = all_with (λ i p q. p ∙ sym q) group hb.same_cards hc.same_cards

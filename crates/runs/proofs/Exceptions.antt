@@ -1,9 +1,10 @@
 -- The choices under which some accepted altered card would go unnamed: few for each such card.
 -- Assumes nothing.
-use Rattle.std.proofs.Common.{◌≡◌, ℕ, ◌+◌, ◌-◌, ◌*◌, ◌^◌, ◌<◌, ◌≤◌, Bool, true, false, cond, not, ◌&&◌, ◌||◌, eqb, ◌⊎◌, List, [], ◌∷◌, ◌++◌, length, Some, None, filter, sym, refl, ap, ◌∙◌, subst, ap₂, inl, inr, true≢false, add-mul, one-mul, zero-add, arith, length-append}
+use Rattle.std.proofs.Common.{◌≡◌, ℕ, ◌+◌, ◌-◌, ◌*◌, ◌^◌, ◌<◌, ◌≤◌, Bool, true, false, cond, not, ◌&&◌, ◌||◌, eqb, ◌⊎◌, List, [], ◌∷◌, ◌++◌, length, Some, None, filter, sym, refl, ap, ◌∙◌, subst, ap₂, inl, inr, ⊎_elim, true≢false, add-mul, one-mul, zero-add, arith, length-append}
 use mathlib.Core.Bool.{false≢true}
 use native.Mathlib.Nat.{pow-le-pow_right}
-use Rattle.std.proofs.lemmas.Bool.{and_parts, or_cases, not-true, cases_Bool}
+use Rattle.std.proofs.lemmas.Bool.{and_from, and_parts, or_cases, not-true, cases_Bool}
+use Rattle.std.proofs.lemmas.Option.{none-some}
 use Rattle.algebra.specs.Count.{In, Exactly}
 use Rattle.algebra.proofs.Counting.{all_in, in_left, in_right}
 use Rattle.fields.specs.DoubledLaws.{doubled_laws}
@@ -12,7 +13,7 @@ use Rattle.runs.specs.Cards.{Card}
 use Rattle.runs.specs.Opening.{some}
 use Rattle.runs.specs.Runs.{Run, start, ◌then◌, Each, Beginning, present, withdraw, seal, reopen, opens, present_accepted, withdraw_accepted, lies, value_altered, tag_altered, altered, altered_values}
 use Rattle.runs.specs.Law.{Deal, Group, Choice, Move, as_dealt, just, Permitted, q, dealt_choice, card_under, calls, Lies, Deals, forgeries}
-use Rattle.runs.proofs.Lists.{some_not_none, some_in, none_in, in_kept, place_below, in_places}
+use Rattle.runs.proofs.Lists.{some_in, none_in, in_kept, place_below, in_places}
 use Rattle.runs.proofs.Beginnings.{whole}
 use Rattle.runs.proofs.Tables.{after_present, RightCard, accepted_right}
 use Rattle.runs.proofs.Likeness.{itself_unaltered}
@@ -24,11 +25,10 @@ in_some [] a k = absurd k
 in_some (b ∷ l) a k = omega arith
 
 more : (b : Bool) (w z n : ℕ) → n ≤ w * z → n ≤ (cond b 1 0 + w) * z
-more true w z n h = omega (arith, add-mul 1 w z, one-mul z)
-more false w z n h = subst (λ k. n ≤ k * z) (sym (zero-add w)) h
+more b w z n h = grind arith
 
-one_more : (w z n m : ℕ) → m ≤ z → n ≤ w * z → m + n ≤ (1 + w) * z
-one_more w z n m k h = omega (arith, add-mul 1 w z, one-mul z)
+one_more : (b : Bool) (w z n m : ℕ) → b ≡ true → m ≤ z → n ≤ w * z → m + n ≤ (cond b 1 0 + w) * z
+one_more b w z n m e k h = grind arith
 
 module _ (D : Deal) (group : List ℕ) (grp : Group D.figures group) where
   open D use {codes, u, v, laws, figures}
@@ -75,18 +75,13 @@ module _ (D : Deal) (group : List ℕ) (grp : Group D.figures group) where
       )
         where
           elsewhere : (j : ℕ) → j < figures.d → va j ≡ false → ta j ≡ false
-          elsewhere j l e2 = ap (λ w. not w && ta j) (sym e2) ∙ none_in bad (places figures) j e (in_places figures.d j l)
+          elsewhere j l e2 = grind (arith, none_in bad (places figures) j e (in_places figures.d j l))
 
           values : 1 ≤ altered_values figures (dealt i) x
           values =
               let r = some_in (λ j. va j || ta j) (places figures) a in
               in_some (filter va (places figures)) r.0 (in_kept va (places figures) r.0 r.1
-              (is r.0 r.1 (or_cases (va r.0) (ta r.0) r.2) (cases_Bool (va r.0))))
-            where
-              is : (j : ℕ) → In j (places figures) → (va j ≡ true) ⊎ (ta j ≡ true) → (va j ≡ true) ⊎ (va j ≡ false) → va j ≡ true
-              is j k (inl h) z = h
-              is j k (inr h) (inl z) = z
-              is j k (inr h) (inr z) = absurd (false≢true (sym (elsewhere j (place_below figures.d j k) z) ∙ h))
+              (grind (arith, r.2, elsewhere r.0 (place_below figures.d r.0 r.1))))
 
           q_positive : 0 < q D
           q_positive = let l : 33 ≤ q D = (doubled_laws laws).at_least_33 in omega arith
@@ -122,15 +117,12 @@ module _ (D : Deal) (group : List ℕ) (grp : Group D.figures group) where
   present_old : (h : ℕ) (y : Card) (accepted : Bool) (past : Run Move) → (accepted ≡ true → altered figures (dealt h) y ≡ true → ⊥)
       → (i : ℕ) (x : Card) → cond (eqb h i && accepted) (Some y) (lies codes figures (calls D (dealt_choice D) past) i) ≡ Some x
       → altered figures (dealt i) x ≡ true → Lies D (dealt_choice D) past i x
-  present_old h y accepted past none i x e a = by (after_present h i y x accepted _ e)
-    where
-      by : ((accepted ≡ true) × (h ≡ i) × (y ≡ x)) ⊎ Lies D (dealt_choice D) past i x → Lies D (dealt_choice D) past i x
-      by (inl r) = absurd (none r.0 (ap₂ (λ z w. altered figures (dealt z) w) r.1 r.2 ∙ a))
-      by (inr k) = k
+  present_old h y accepted past none i x e a =
+      ⊎_elim (λ r. absurd (none r.0 (ap₂ (λ z w. altered figures (dealt z) w) r.1 r.2 ∙ a))) (λ k. k) (after_present h i y x accepted _ e)
 
   pub exceptional : (script : Run Move) → Each (Permitted codes figures group) script → Exceptional script
   exceptional start permitted =
-      ([], omega arith, λ past e i x h a c d s. some_not_none x (sym h ∙ ap (λ z. lies codes figures (calls D (dealt_choice D) z) i) e))
+      ([], omega arith, λ past e i x h a c d s. none-some x (sym (ap (λ z. lies codes figures (calls D (dealt_choice D) z) i) e) ∙ h))
   exceptional (past then as_dealt h) permitted =
       let ih = exceptional past permitted.0 in
       same_cover past (as_dealt h) _ ih (more _ _ bound (length ih.0) ih.1)
@@ -153,31 +145,24 @@ module _ (D : Deal) (group : List ℕ) (grp : Group D.figures group) where
           let one = one_card h y (member fy) (accepted_right codes figures _ h y p) r in
           let w = forgeries D (dealt_choice D) past in (
             one.0 ++ ih.0,
-            subst (λ b. length (one.0 ++ ih.0) ≤ (cond b 1 0 + w) * bound) (sym (ap₂ ◌&&◌ p r))
-                (subst (λ z. z ≤ (1 + w) * bound) (sym (length-append one.0 ih.0))
-                (one_more w bound (length ih.0) (length one.0) one.1 ih.1)),
+            omega (
+              arith,
+              length-append one.0 ih.0,
+              one_more _ w bound (length ih.0) (length one.0) (and_from _ _ p r) one.1 ih.1,
+            ),
             extend (one.0 ++ ih.0) ih.0 past (just (present h y)) (λ c k. in_right one.0 ih.0 c k) ih.2
-                (λ i x e b c d s. either one.0 ih.0 c (after_present h i y x accepted _ e)
-                (λ z. one.2 c d (ap₂ (λ n card. strays D c (n, card)) z.1 z.2 ∙ s))
-                (λ z. ih.2 past (whole past) i x z b c d s)),
+                (λ i x e b c d s. ⊎_elim
+                (λ z. in_left one.0 ih.0 c (one.2 c d (ap₂ (λ n card. strays D c (n, card)) z.1 z.2 ∙ s)))
+                (λ z. in_right one.0 ih.0 c (ih.2 past (whole past) i x z b c d s)) (after_present h i y x accepted _ e)),
           )
         where
           member : Permitted codes figures group (just (present h y)) → In h group
           member (inl k) = k
           member (inr k) = absurd (true≢false (sym p ∙ ap not (k _)))
-
-          either : {A B : Type 0} (k l : List Choice) (c : Choice) → A ⊎ B → (A → In c k) → (B → In c l) → In c (k ++ l)
-          either k l c (inl a) g w = in_left k l c (g a)
-          either k l c (inr a) g w = in_right k l c (w a)
   exceptional (past then just (withdraw h)) permitted =
       let ih = exceptional past permitted.0 in
       same_cover past (just (withdraw h)) _ ih ih.1
-      (λ i x e a. by (eqb h i && withdraw_accepted codes figures (lies codes figures (calls D (dealt_choice D) past) h) h) i x e)
-    where
-      by : (b : Bool) (i : ℕ) (x : Card) → cond b None (lies codes figures (calls D (dealt_choice D) past) i) ≡ Some x → Lies D
-          (dealt_choice D) past i x
-      by true i x e = absurd (some_not_none x (sym e))
-      by false i x e = e
+      (λ i x e a. grind arith)
   exceptional (past then just seal) permitted =
       let ih = exceptional past permitted.0 in same_cover past (just seal) _ ih ih.1 (λ i x e a. e)
   exceptional (past then just reopen) permitted =

@@ -1,7 +1,7 @@
 -- The law over runs, and that every run of calls is a script's.
 -- Assumes nothing.
-use Rattle.std.proofs.Common.{◌≡◌, ℕ, ◌-◌, ◌^◌, ◌<◌, ◌≤◌, true, false, not, ◌⊎◌, List, [], length, filter, sym, refl, ap, ◌∙◌, subst, ap₂, inl, inr, true≢false, arith}
-use Rattle.std.proofs.lemmas.Bool.{eq-eqb, cases_Bool}
+use Rattle.std.proofs.Common.{◌≡◌, ℕ, ◌-◌, ◌^◌, ◌<◌, ◌≤◌, true, false, not, ◌⊎◌, List, [], length, filter, sym, refl, ap, ◌∙◌, subst, ap₂, inl, inr, ⊎_elim, true≢false, arith}
+use Rattle.std.proofs.lemmas.Bool.{eq-eqb, false_from_ne_true, true_from_ne_false}
 use Rattle.algebra.specs.Count.{In, Exactly}
 use Rattle.algebra.proofs.Counting.{all_in, exactly_iff}
 use Rattle.scheme.specs.Dealing.{places}
@@ -42,14 +42,13 @@ module _ (D : Deal) (group : List ℕ) (grp : Group D.figures group) where
 
     -- a card with an altered value is one of the group's
     altered_member : (i : ℕ) (x : Card) → Lies D c past i x → 1 ≤ altered_values figures (card_under D c i) x → In i group
-    altered_member i x e some = by (lying_kinds D group c hc past permitted i x e)
+    altered_member i x e some = ⊎_elim (λ m. m) (λ z. absurd (as_dealt z)) (lying_kinds D group c hc past permitted i x e)
       where
-        by : In i group ⊎ (x ≡ card_under D c i) → In i group
-        by (inl m) = m
-        by (inr z) =
+        as_dealt : x ≡ card_under D c i → ⊥
+        as_dealt z =
             let none : filter (value_altered (card_under D c i) x) (places figures) ≡ [] =
             kept_none _ (places figures) (λ j _. ap not (eq-eqb _ _ (ap (λ y. (pair_at y j).value) z))) in
-            absurd (omega (arith, ap length none))
+            omega (arith, ap length none)
 
     unnamed_choices : (i : ℕ) (x : Card) → Lies D c past i x → 1 ≤ altered_values figures (card_under D c i) x
         → ((j : ℕ) → j < figures.d → value_altered (card_under D c i) x j ≡ false → tag_altered (card_under D c i) x j ≡ false)
@@ -62,7 +61,8 @@ module _ (D : Deal) (group : List ℕ) (grp : Group D.figures group) where
           λ k. true≢false (sym (named_strays D group grp b h.0 past permitted buffer names (pass_under b h.0) i x
               (lies_under b h.0) k) ∙ h.1),
         ))
-        (λ b h. (h.0, unnamed_stays b h.0 h.1 (cases_Bool (strays D b (i, x)))))
+        (λ b h. (h.0, false_from_ne_true _ (λ s. h.1 (strays_named D group grp b h.0 past permitted buffer names (pass_under b h.0) i x
+            (lies_under b h.0) s))))
         (unnamed_count D group grp i m x (lies_right codes figures (calls D c past) i x e)
         (subst (λ y. (j : ℕ) → j < figures.d → value_altered y x j ≡ false → tag_altered y x j ≡ false) same elsewhere)))
       where
@@ -74,12 +74,6 @@ module _ (D : Deal) (group : List ℕ) (grp : Group D.figures group) where
 
         lies_under : (b : Choice) → Deals D group b → Lies D b past i x
         lies_under b hb = group_lies D group c b hc hb past permitted i x m e
-
-        unnamed_stays : (b : Choice) → Deals D group b → (Names D b past buffer names i → ⊥)
-            → (strays D b (i, x) ≡ true) ⊎ (strays D b (i, x) ≡ false) → strays D b (i, x) ≡ false
-        unnamed_stays b hb n (inl s) =
-            absurd (n (strays_named D group grp b hb past permitted buffer names (pass_under b hb) i x (lies_under b hb) s))
-        unnamed_stays b hb n (inr s) = s
 
     told : Naming D group c past buffer names
     told = record {
@@ -119,14 +113,14 @@ module _ (D : Deal) (group : List ℕ) (grp : Group D.figures group) where
 
       -- under a choice that is no exception each lying altered card strays
       strict : (c : Choice) → Deals D group c → (In c found.0 → ⊥) → (past : Run Move) → Beginning past script → Strict D c past
-      strict c hc nc past e i x h a = by (lying_kinds D group c hc past (permitted_until past e) i x h) (cases_Bool (strays D c (i, x)))
+      strict c hc nc past e i x h a =
+          true_from_ne_false _ (λ s. by s (lying_kinds D group c hc past (permitted_until past e) i x h))
         where
-          by : In i group ⊎ (x ≡ card_under D c i) → (strays D c (i, x) ≡ true) ⊎ (strays D c (i, x) ≡ false) → strays D c (i, x) ≡ true
-          by k (inl s) = s
-          by (inl m) (inr s) =
-              absurd (nc (found.2 past e i x (group_lies D group c (dealt_choice D) hc hd past (permitted_until past e) i x m h)
-              (ap (λ z. altered figures z x) (sym (all_in _ group i hc.same_cards m)) ∙ a) c hc s))
-          by (inr z) (inr s) = absurd (true≢false (sym a ∙ ap (λ y. altered figures y x) (sym z) ∙ itself_unaltered figures x))
+          by : strays D c (i, x) ≡ false → In i group ⊎ (x ≡ card_under D c i) → ⊥
+          by s (inl m) =
+              nc (found.2 past e i x (group_lies D group c (dealt_choice D) hc hd past (permitted_until past e) i x m h)
+              (ap (λ z. altered figures z x) (sym (all_in _ group i hc.same_cards m)) ∙ a) c hc s)
+          by s (inr z) = true≢false (sym a ∙ ap (λ y. altered figures y x) (sym z) ∙ itself_unaltered figures x)
 
 -- ---- every run of calls is a script's
 

@@ -1,8 +1,10 @@
 -- What lies under two choices that deal the group the same cards: the same numbers, with the same cards for the group and with the
 -- cards as dealt for all others.
 -- Assumes nothing.
-use Rattle.std.proofs.Common.{◌≡◌, ℕ, ◌+◌, Bool, true, false, cond, not, ◌&&◌, eqb, ◌⊎◌, List, is_some, Some, None, Option, sym, refl, ap, ◌∙◌, subst, ap₂, inl, inr, true≢false}
+use Rattle.std.proofs.Common.{◌≡◌, ℕ, ◌+◌, Bool, true, false, cond, not, ◌&&◌, eqb, ◌⊎◌, List, is_some, Some, None, Option, sym, refl, ap, ◌∙◌, subst, ap₂, inl, inr, true≢false, arith}
 use Rattle.std.proofs.lemmas.Bool.{eqb-true, eq-eqb, or_from}
+use Rattle.std.proofs.lemmas.List.Elements.{filter_agree}
+use Rattle.std.proofs.lemmas.Option.{none-some, same_Some}
 use Rattle.algebra.specs.Count.{In}
 use Rattle.algebra.proofs.Counting.{all_in}
 use Rattle.scheme.specs.Dealing.{participants, places}
@@ -11,7 +13,7 @@ use Rattle.runs.specs.Cards.{Card, is_participant, present_refusal}
 use Rattle.runs.specs.Opening.{pair_at}
 use Rattle.runs.specs.Runs.{Run, start, ◌then◌, Each, present, withdraw, seal, reopen, opens, present_accepted, withdraw_accepted, lies, numbers_lying, altered, lies_altered, lies_unaltered, lying_altered, lying_unaltered}
 use Rattle.runs.specs.Law.{Deal, Choice, Move, as_dealt, just, Permitted, card_under, calls, Lies, Deals, forgeries}
-use Rattle.runs.proofs.Lists.{some_not_none, same_some, none_from, kept_same}
+use Rattle.runs.proofs.Lists.{none_from}
 use Rattle.runs.proofs.Dealt.{deals_sound, card_refused, same_cards}
 use Rattle.runs.proofs.Tables.{present_by, withdraw_by}
 
@@ -31,9 +33,7 @@ module _ (D : Deal) (group : List ℕ) (b c : Choice) (hb : Deals D group b) (hc
       ⊎ (((x : Card) × In i group × (o ≡ Some x) × (p ≡ Some x)) ⊎ ((o ≡ Some (card_under D b i)) × (p ≡ Some (card_under D c i))))
 
   like_some : (i : ℕ) (o p : Option Card) → Like i o p → is_some o ≡ is_some p
-  like_some i o p (inl h) = ap is_some h.0 ∙ sym (ap is_some h.1)
-  like_some i o p (inr (inl h)) = ap is_some h.2 ∙ sym (ap is_some h.3)
-  like_some i o p (inr (inr h)) = ap is_some h.0 ∙ sym (ap is_some h.1)
+  like_some i o p h = grind arith
 
   -- a present of cards that are alike
   abbrev Paired : ℕ → Card → Card → Type 0
@@ -100,37 +100,30 @@ module _ (D : Deal) (group : List ℕ) (b c : Choice) (hb : Deals D group b) (hc
     same_some_lies i = like_some i _ _ (like past permitted i)
 
     pub same_lying : numbers_lying codes figures (calls D b past) ≡ numbers_lying codes figures (calls D c past)
-    same_lying = kept_same _ _ (participants figures) (λ i _. same_some_lies i)
+    same_lying = filter_agree _ _ same_some_lies (participants figures)
 
     -- a card of the group lies under both
     pub group_lies : (i : ℕ) (x : Card) → In i group → Lies D b past i x → Lies D c past i x
-    group_lies i x m e = by (like past permitted i)
-      where
-        by : Like i (under_b past i) (under_c past i) → Lies D c past i x
-        by (inl h) = absurd (some_not_none x (sym e ∙ h.0))
-        by (inr (inl h)) = h.3 ∙ sym h.2 ∙ e
-        by (inr (inr h)) = h.1 ∙ ap Some (sym (all_in _ group i (same_cards D group b c hb hc) m)) ∙ sym h.0 ∙ e
+    group_lies i x m e = grind (arith, like past permitted i, all_in _ group i (same_cards D group b c hb hc) m)
 
     -- what depends on the lying card and the dealt one alone
     same_beside : (P : Card → Option Card → Bool) → ((x y : Card) → P x None ≡ P y None) → ((x y : Card) → P x (Some x) ≡ P y (Some y))
         → (i : ℕ) → P (card_under D b i) (under_b past i) ≡ P (card_under D c i) (under_c past i)
-    same_beside P none itself i = by (like past permitted i)
-      where
-        by : Like i (under_b past i) (under_c past i) → P (card_under D b i) (under_b past i) ≡ P (card_under D c i) (under_c past i)
-        by (inl h) = ap (P _) h.0 ∙ none _ _ ∙ sym (ap (P _) h.1)
-        by (inr (inl h)) = ap₂ P (all_in _ group i (same_cards D group b c hb hc) h.1) h.2 ∙ sym (ap (P _) h.3)
-        by (inr (inr h)) = ap (P _) h.0 ∙ itself _ _ ∙ sym (ap (P _) h.1)
+    same_beside P none itself i =
+        grind (arith, like past permitted i, all_in _ group i (same_cards D group b c hb hc), none, itself)
 
     pub same_altered : lying_altered codes figures (card_under D b) (calls D b past) ≡ lying_altered codes figures (card_under D c) (calls D c past)
     same_altered =
-        kept_same _ _ (participants figures)
-        (λ i _. same_beside (lies_altered figures) (λ x y. refl) (λ x y. itself_unaltered figures x ∙ sym (itself_unaltered figures y)) i)
+        filter_agree _ _
+        (same_beside (lies_altered figures) (λ x y. refl) (λ x y. itself_unaltered figures x ∙ sym (itself_unaltered figures y)))
+        (participants figures)
 
     pub same_unaltered : lying_unaltered codes figures (card_under D b) (calls D b past) ≡ lying_unaltered codes figures (card_under D c)
         (calls D c past)
     same_unaltered =
-        kept_same _ _ (participants figures)
-        (λ i _. same_beside (lies_unaltered figures) (λ x y. refl) (λ x y. ap not (itself_unaltered figures x ∙ sym (itself_unaltered figures y))) i)
+        filter_agree _ _
+        (same_beside (lies_unaltered figures) (λ x y. refl) (λ x y. ap not (itself_unaltered figures x ∙ sym (itself_unaltered figures y))))
+        (participants figures)
 
   -- as many altered cards are accepted
   pub same_forgeries : (script : Run Move) → Each (Permitted codes figures group) script → forgeries D b script ≡ forgeries D c script
@@ -163,10 +156,4 @@ module _ (D : Deal) (group : List ℕ) (b c : Choice) (hb : Deals D group b) (hc
 -- a lying card is one of the group's, or as dealt
 pub lying_kinds : (D : Deal) (group : List ℕ) (c : Choice) → Deals D group c → (past : Run Move) → Each (Permitted D.codes D.figures group) past
     → (i : ℕ) (x : Card) → Lies D c past i x → In i group ⊎ (x ≡ card_under D c i)
-lying_kinds D group c hc past permitted i x e = by (like D group c c hc hc past permitted i)
-  where
-    by : Like D group c c hc hc i (lies D.codes D.figures (calls D c past) i) (lies D.codes D.figures (calls D c past) i)
-        → In i group ⊎ (x ≡ card_under D c i)
-    by (inl h) = absurd (some_not_none x (sym e ∙ h.0))
-    by (inr (inl h)) = inl h.1
-    by (inr (inr h)) = inr (same_some x (card_under D c i) (sym e ∙ h.0))
+lying_kinds D group c hc past permitted i x e = grind (arith, like D group c c hc hc past permitted i)

@@ -1,8 +1,9 @@
 -- Which cards lie after a run of calls.
 -- Assumes nothing.
-use Rattle.std.proofs.Common.{◌≡◌, ℕ, Bool, true, false, cond, not, ◌&&◌, eqb, ◌⊎◌, [], ◌∷◌, ◌++◌, is_some, Some, None, Option, sym, refl, ap, ◌∙◌, subst, ap₂, inl, inr, true≢false}
+use Rattle.std.proofs.Common.{◌≡◌, ℕ, Bool, true, false, cond, not, ◌&&◌, eqb, ◌⊎◌, [], ◌∷◌, ◌++◌, is_some, Some, None, Option, sym, refl, ap, ◌∙◌, subst, ap₂, inl, inr, ⊎_elim, true≢false, arith}
 use mathlib.Core.Bool.{false≢true}
 use Rattle.std.proofs.lemmas.Bool.{eqb-true, eq-eqb, cases_Bool, cond-true, cond-false}
+use Rattle.std.proofs.lemmas.Option.{none-some}
 use Rattle.algebra.proofs.Counting.{all_from_in}
 use Rattle.fields.specs.Laws.{Codes}
 use Rattle.scheme.specs.declared.types.Figures.{Figures}
@@ -10,8 +11,6 @@ use Rattle.scheme.proofs.Acceptance.{all_yes}
 use Rattle.runs.specs.Cards.{Card, Cards, card_of, lying, card_questions, present_refusal, withdraw_refusal, settled, RightTable}
 use Rattle.runs.specs.Runs.{Run, start, ◌then◌, Call, present, withdraw, seal, reopen, opens, counts, done, table, present_accepted, withdraw_accepted, lies}
 use Rattle.runs.specs.Lying.{accepts, accepted, accepted_calls, takes_up, NotTakenUp, LaidDown, LyingByAcceptedCalls, LyingUntilWithdrawn, OneCardEach}
-use Rattle.runs.proofs.Lists.{some_not_none}
-use Rattle.runs.proofs.Beginnings.{not_start}
 use Rattle.runs.proofs.Collected.{lying_apart}
 use Rattle.runs.proofs.Tables.{after_present, right_from, lies_right, table_length, table_lies, table_present, table_withdraw, lying_numbers, lying_lies, lies_lying}
 
@@ -20,8 +19,7 @@ module _ (C : Codes) (u v : ℕ) (f : Figures) where
 
   settled_same : (r : Option ℕ) (cards : Cards) (i : ℕ) (new : Option Card) → accepts (counts (settled C f r cards i new).0) ≡ false
       → (settled C f r cards i new).1 ≡ cards
-  settled_same None cards i new e = absurd (true≢false e)
-  settled_same (Some x) cards i new e = refl
+  settled_same r cards i new e = grind arith
 
   unchanged : (call : Call) (cards : Cards) → accepts (done C u v f call cards).0 ≡ false → (done C u v f call cards).1 ≡ cards
   unchanged (present i card) cards e = settled_same (present_refusal C f (card_of cards i) i card) cards i (Some card) e
@@ -33,18 +31,12 @@ module _ (C : Codes) (u v : ℕ) (f : Figures) where
   -- the accepted calls alone give the same table
   accepted_alone : (run : Run Call) → table C u v f (accepted_calls C u v f run) ≡ table C u v f run
   accepted_alone start = refl
-  accepted_alone (past then call) = by (accepted C u v f past call) refl (accepted_alone past)
-    where
-      by : (b : Bool) → accepted C u v f past call ≡ b → table C u v f (accepted_calls C u v f past) ≡ table C u v f past
-          → table C u v f (cond b (accepted_calls C u v f past then call) (accepted_calls C u v f past)) ≡ table C u v f (past then call)
-      by true e ih = ap (λ T. (done C u v f call T).1) ih
-      by false e ih = ih ∙ sym (unchanged call (table C u v f past) e)
+  accepted_alone (past then call) = grind (arith, accepted_alone past, unchanged call (table C u v f past))
 
   -- ---- accepted by the answer, and accepted by the calls alone
 
   settled_accepts : (r : Option ℕ) (cards : Cards) (i : ℕ) (new : Option Card) → accepts (counts (settled C f r cards i new).0) ≡ not (is_some r)
-  settled_accepts None cards i new = refl
-  settled_accepts (Some x) cards i new = refl
+  settled_accepts r cards i new = grind arith
 
   present_same : (past : Run Call) (i : ℕ) (card : Card) → accepted C u v f past (present i card) ≡ present_accepted C f (lies C f past i) i card
   present_same past i card =
@@ -58,27 +50,17 @@ module _ (C : Codes) (u v : ℕ) (f : Figures) where
 
   -- where a card of i lies, a present of i is refused
   second : (old card : Card) (i : ℕ) → present_accepted C f (Some old) i card ≡ false
-  second old card i = by (present_refusal C f (Some old) i card) refl
-    where
-      by : (r : Option ℕ) → present_refusal C f (Some old) i card ≡ r → not (is_some r) ≡ false
-      by None e = absurd (false≢true (all_yes (card_questions C f i card ++ (false, 44) ∷ []) e).1.1.1.0)
-      by (Some x) e = refl
+  second old card i = grind (arith, all_yes (card_questions C f i card ++ (false, 44) ∷ []))
 
   -- ---- a card lies from its accepted present to the next accepted withdraw
 
   laid_down : (i : ℕ) (card : Card) (past run : Run Call) → accepted C u v f past (present i card) ≡ true
       → NotTakenUp C u v f i (past then present i card) run → lies C f run i ≡ Some card
-  laid_down i card past start a e = absurd (not_start past (present i card) e)
+  laid_down i card past start a e = cc
   laid_down i card past (run then call) a (inl e) =
       ap (λ r. lies C f r i) (sym e) ∙ cond-true _ _ _ (ap₂ ◌&&◌ (eq-eqb i i refl) (sym (present_same past i card) ∙ a))
-  laid_down i card past (run then present h x) a (inr k) = by (eqb h i) refl (laid_down i card past run a k.0)
-    where
-      by : (b : Bool) → eqb h i ≡ b → lies C f run i ≡ Some card
-          → cond (b && present_accepted C f (lies C f run h) h x) (Some x) (lies C f run i) ≡ Some card
-      by true e ih =
-          let hi = eqb-true h i e in
-          cond-false _ _ _ (ap (λ o. present_accepted C f o h x) (ap (lies C f run) hi ∙ ih) ∙ second card x h) ∙ ih
-      by false e ih = ih
+  laid_down i card past (run then present h x) a (inr k) =
+      grind (arith, second card x h, laid_down i card past run a k.0)
   laid_down i card past (run then withdraw h) a (inr k) =
       cond-false _ _ _ (ap (λ b. eqb h i && b) (sym (withdraw_same run h)) ∙ k.1) ∙ laid_down i card past run a k.0
   laid_down i card past (run then seal) a (inr k) = laid_down i card past run a k.0
@@ -90,24 +72,18 @@ module _ (C : Codes) (u v : ℕ) (f : Figures) where
   longer i card run call e r = (r.0, r.1, inr (r.2, e))
 
   was_laid_down : (i : ℕ) (card : Card) (run : Run Call) → lies C f run i ≡ Some card → LaidDown C u v f run i card
-  was_laid_down i card start e = absurd (some_not_none card (sym e))
+  was_laid_down i card start e = cc
   was_laid_down i card (run then present h x) e =
-      by (after_present h i x card (present_accepted C f (lies C f run h) h x) (lies C f run i) e) (was_laid_down i card run)
-    where
-      by : ((present_accepted C f (lies C f run h) h x ≡ true) × (h ≡ i) × (x ≡ card)) ⊎ (lies C f run i ≡ Some card)
-          → (lies C f run i ≡ Some card → LaidDown C u v f run i card) → LaidDown C u v f (run then present h x) i card
-      by (inl r) ih =
-          let same = ap₂ present r.1 r.2 in
-          (run, subst (λ call. accepted C u v f run call ≡ true) same (present_same run h x ∙ r.0), inl (ap (λ call. run then call) (sym same)))
-      by (inr k) ih = longer i card run (present h x) refl (ih k)
+      ⊎_elim
+      (λ r.
+      let same = ap₂ present r.1 r.2 in
+      (run, subst (λ call. accepted C u v f run call ≡ true) same (present_same run h x ∙ r.0), inl (ap (λ call. run then call) (sym same))))
+      (λ k. longer i card run (present h x) refl (was_laid_down i card run k))
+      (after_present h i x card (present_accepted C f (lies C f run h) h x) (lies C f run i) e)
   was_laid_down i card (run then withdraw h) e =
-      by (cases_Bool (eqb h i && withdraw_accepted C f (lies C f run h) h)) (was_laid_down i card run)
-    where
-      by : ((eqb h i && withdraw_accepted C f (lies C f run h) h) ≡ true) ⊎ ((eqb h i && withdraw_accepted C f (lies C f run h) h) ≡ false)
-          → (lies C f run i ≡ Some card → LaidDown C u v f run i card) → LaidDown C u v f (run then withdraw h) i card
-      by (inl t) ih = absurd (some_not_none card (sym e ∙ cond-true _ _ _ t))
-      by (inr t) ih =
-          longer i card run (withdraw h) (ap (λ b. eqb h i && b) (withdraw_same run h) ∙ t) (ih (sym (cond-false _ _ _ t) ∙ e))
+      let kept : lies C f run i ≡ Some card = grind arith in
+      let refused : (eqb h i && withdraw_accepted C f (lies C f run h) h) ≡ false = grind arith in
+      longer i card run (withdraw h) (ap (λ b. eqb h i && b) (withdraw_same run h) ∙ refused) (was_laid_down i card run kept)
   was_laid_down i card (run then seal) e = longer i card run seal refl (was_laid_down i card run e)
   was_laid_down i card (run then reopen) e = longer i card run reopen refl (was_laid_down i card run e)
   was_laid_down i card (run then opens key names) e = longer i card run (opens key names) refl (was_laid_down i card run e)

@@ -5,7 +5,8 @@ use Rattle.std.specs.List.{AllByRecursion}
 use Rattle.std.proofs.lemmas.List.{length-map}
 use Rattle.std.proofs.lemmas.List.Filters.{length-filter_both}
 use Rattle.std.proofs.ByRecursion.{All-map}
-use Rattle.std.proofs.lemmas.Bool.{eqb-true, eqb-false, eq-eqb, not-true, not-false, or_parts, cases_Bool}
+use Rattle.std.proofs.lemmas.Bool.{eqb-true, eqb-false, eq-eqb, not-true, not-false, or_parts, not_from_false, false_from_ne_true}
+use Rattle.std.proofs.lemmas.Option.{same_Some}
 use Rattle.algebra.specs.Count.{In}
 use Rattle.algebra.proofs.Counting.{all_from_in, in_map, in_map_back, at_most}
 use Rattle.fields.specs.Doubled.{doubled, join}
@@ -15,7 +16,7 @@ use Rattle.runs.specs.Cards.{Card, Cards, lying}
 use Rattle.runs.specs.Opening.{pair_at, FirstThree}
 use Rattle.runs.specs.Runs.{Run, Each, table, written, lies, value_altered, tag_altered, altered}
 use Rattle.runs.specs.Law.{Deal, Group, Choice, Move, Permitted, card_under, calls, opening, Passes, Names, Lies, Deals}
-use Rattle.runs.proofs.Lists.{same_some, some_from, none_from, none_in, in_kept, kept_in, apart_kept, distinct_images, place_below, in_places}
+use Rattle.runs.proofs.Lists.{some_from, none_from, none_in, in_kept, kept_in, apart_kept, distinct_images, place_below, in_places}
 use Rattle.runs.proofs.Collected.{number, lying_apart}
 use Rattle.runs.proofs.Tables.{RightCard, lies_right, lying_lies, lies_lying, lying_length}
 use Rattle.runs.proofs.Opened.{hits, misses, written_is}
@@ -63,11 +64,7 @@ module _ (D : Deal) (c : Choice) where
         let l = place_below figures.d j k in let r = unaltered_parts e j l in ap not (dealt_tag_right j l r.0 r.1))
 
     pub altered_tag_strays : (j : ℕ) → j < figures.d → value_altered dealt x j ≡ false → tag_altered dealt x j ≡ true → strays (i, x) ≡ true
-    altered_tag_strays j l p r = some_from _ (places figures) j (in_places figures.d j l) (by (cases_Bool (tag_right j (i, x))))
-      where
-        by : (tag_right j (i, x) ≡ true) ⊎ (tag_right j (i, x) ≡ false) → not (tag_right j (i, x)) ≡ true
-        by (inl e) = absurd (altered_tag_wrong j l p r e)
-        by (inr e) = ap not e
+    altered_tag_strays j l p r = some_from _ (places figures) j (in_places figures.d j l) (not_from_false _ (false_from_ne_true _ (altered_tag_wrong j l p r)))
 
 -- ---- the table after a script
 
@@ -102,14 +99,11 @@ module _ (D : Deal) (group : List ℕ) (grp : Group D.figures group) (c : Choice
         grp.size,
       )
     where
-      same : (x y : ℕ) → x ≡ y → not (lib.Dec.eqb x y) ≡ false
-      same x y e = ap not (eq-eqb x y e)
-
       member : (a : ℕ × Card) → tag_right D c j a ≡ false → In a.0 group ⊎ (a.1 ≡ card_under D c a.0) → In a.0 group
       member a e (inl k) = k
       member a e (inr z) =
-          absurd (true≢false (sym (dealt_tag_right D c a.0 a.1 j l (same _ _ (ap (λ x. (pair_at x j).value) z))
-          (same _ _ (ap (λ x. (pair_at x j).tag) z))) ∙ e))
+          absurd (true≢false (sym (dealt_tag_right D c a.0 a.1 j l (ap not (eq-eqb _ _ (ap (λ x. (pair_at x j).value) z)))
+          (ap not (eq-eqb _ _ (ap (λ x. (pair_at x j).tag) z)))) ∙ e))
 
   module _ (buffer names : List ℕ) (pass : Passes D c past buffer names) where
     pub first_three : FirstThree figures (length (lying cards)) buffer names
@@ -130,7 +124,7 @@ module _ (D : Deal) (group : List ℕ) (grp : Group D.figures group) (c : Choice
         let s = kept_in (strays D c) (lying cards) r.0 r.1 in
         let y : Some r.0.1 ≡ Some x =
         sym (lying_lies codes figures u v (calls D c past) r.0 s.0) ∙ ap (lies codes figures (calls D c past)) (sym r.2) ∙ e in
-        let z : ◌≡◌ {A = ℕ × Card} (i, x) r.0 = ap₂ {C = ℕ × Card} (λ a b. (a, b)) r.2 (sym (same_some r.0.1 x y)) in
+        let z : ◌≡◌ {A = ℕ × Card} (i, x) r.0 = ap₂ {C = ℕ × Card} (λ a b. (a, b)) r.2 (sym (same_Some r.0.1 x y)) in
         ap (strays D c) z ∙ s.1
 
     pub strays_named : (i : ℕ) (x : Card) → Lies D c past i x → strays D c (i, x) ≡ true → Names D c past buffer names i

@@ -1,14 +1,15 @@
 -- What open finds on a table, where at each place at most t lying cards miss one given polynomial.
 -- Assumes nothing.
 use Rattle.std.proofs.Common.{◌≡◌, ℕ, suc, ◌+◌, ◌-◌, ◌*◌, ◌/◌, ◌%◌, ◌<◌, ◌≤◌, Bool, true, false, not, leb, ◌⊎◌, List, [], ◌∷◌, ◌++◌, map, length, get_or, replicate, Some, None, Ok, Err, filter, Option, sym, ap, ◌∙◌, subst, ap₂, inl, inr, true≢false, arith}
-use lib.ListN.{get_or-eq_default}
 use Rattle.std.specs.List.{AllByRecursion}
-use Rattle.std.proofs.lemmas.List.{length-map}
+use Rattle.std.proofs.Math.Seq.{take-append_seam}
+use Rattle.std.proofs.lemmas.List.{length-map, get_or_past}
+use Rattle.std.proofs.lemmas.List.Elements.{filter_agree}
 use Rattle.std.proofs.ByRecursion.{All-get_or, all_kept_by, All-map, All-weaker}
-use Rattle.std.proofs.lemmas.Bool.{le-leb, eq-eqb, lt-leb, ltb-true, and_parts, not-true, cond-false, cases_lt, eqb-true, cond-true, cases_Bool}
+use Rattle.std.proofs.lemmas.Bool.{le-leb, eq-eqb, lt-leb, ltb-true, and_parts, not-true, cond-false, eqb-true, cond-true, false_from_ne_true}
 use Rattle.algebra.specs.Polynomial.{Apart}
 use Rattle.algebra.specs.Count.{In}
-use Rattle.algebra.proofs.Counting.{all_in, all_from_in, in_map_back}
+use Rattle.algebra.proofs.Counting.{all_with, in_map_back}
 use Rattle.fields.specs.Laws.{Codes, DoublableLaws}
 use Rattle.fields.specs.Doubled.{doubled, join}
 use Rattle.fields.specs.Elements.{zero_below}
@@ -24,7 +25,7 @@ use Rattle.scheme.proofs.Enumerated.{kept_none, CodesOf, polynomials_are}
 use Rattle.runs.specs.Cards.{blank, Card, Cards, lying, is_coded_lem}
 use Rattle.runs.specs.Opening.{some, pair_at, tag_point, value_point, fitting_at, is_named, named, unnamed, value_curves, early_questions, late_questions, new_key, concluded, opened, FirstThree}
 use Rattle.runs.specs.Runs.{written}
-use Rattle.runs.proofs.Lists.{no_refusal, every_from, kept_in, apart_kept, kept_map, kept_same, some_same, map_same, take_front, place_below, every_in, not_every, in_places}
+use Rattle.runs.proofs.Lists.{no_refusal, every_from, kept_in, apart_kept, kept_map, some_same, map_same, place_below, every_in, not_every, in_places}
 use Rattle.runs.proofs.Fits.{Plane, plane_kept, same_on, fitting_few, fitting_is, through_is}
 use Rattle.runs.proofs.Collected.{number, lying_apart}
 use Rattle.runs.proofs.Tables.{RightCard, participant_high}
@@ -33,8 +34,8 @@ use Rattle.runs.proofs.Tables.{RightCard, participant_high}
 pub apart_points : {A : Type 0} {P : A → Type 0} (p : A → ℕ × ℕ) (x : A → ℕ) → ((a b : A) → P a → P b → (p a).0 ≡ (p b).0 → x a ≡ x b)
     → (l : List A) → AllByRecursion P l → Apart x l → Apart (λ (z : ℕ × ℕ). z.0) (map p l)
 apart_points p x inj [] h d = tt
-apart_points {P = P} p x inj (a ∷ l) h d = (
-  All-map _ p l (all_from_in l (λ b k e. all_in _ l b d.0 k (inj b a (all_in P l b h.1 k) h.0 e))),
+apart_points p x inj (a ∷ l) h d = (
+  All-map _ p l (all_with (λ b n pb e. n (inj b a pb h.0 e)) l d.0 h.1),
   apart_points p x inj l h.1 d.1,
 )
 
@@ -61,11 +62,7 @@ module _ {C : Codes} {u v : ℕ} (L : DoublableLaws C u v) (f : Figures) where
       (ltb-true _ _ r.0, ltb-true _ _ r.1)
 
   pub pair_value_below : (card : Card) → every (is_coded_lem C) card ≡ true → (j : ℕ) → (pair_at card j).value < C.size
-  pair_value_below card e j = by (cases_lt j (length card))
-    where
-      by : (j < length card) ⊎ (length card ≤ j) → (pair_at card j).value < C.size
-      by (inl h) = (pair_below card e j h).0
-      by (inr h) = subst (λ (a : Pair). a.value < C.size) (sym (get_or-eq_default card blank h)) (zero_below L.on_codes)
+  pair_value_below card e j = grind (arith, pair_below card e j, get_or_past card j blank, zero_below L.on_codes)
 
   -- the abscissa value + i·y tells the value and i
   pub point_below : (i w : ℕ) → i ≤ f.n → w < C.size → join C.size w i < C.size * C.size
@@ -137,10 +134,10 @@ module _ {C : Codes} {u v : ℕ} (L : DoublableLaws C u v) (f : Figures) where
         names_then names = missing ++ replicate (length names - length missing) 0
 
         named_numbers : named C u v f cards ≡ missing
-        named_numbers = ap (map number) (kept_same _ _ (lying cards) (λ a _. named_is a))
+        named_numbers = ap (map number) (filter_agree _ _ named_is (lying cards))
 
         unnamed_is : unnamed C u v f cards ≡ clean
-        unnamed_is = kept_same _ _ (lying cards) (λ a _. ap not (named_is a))
+        unnamed_is = filter_agree _ _ (λ a. ap not (named_is a)) (lying cards)
 
         module _ (key names : List ℕ) (first : FirstThree f (length (lying cards)) key names) where
           no_early : first_no (early_questions C u v f cards key names) ≡ None
@@ -166,8 +163,8 @@ module _ {C : Codes} {u v : ℕ} (L : DoublableLaws C u v) (f : Figures) where
               ∙ by (first_no (late_questions C u v f cards)) ∙ named_numbers
             where
               by : (o : Option ℕ) → written (concluded C u v f cards None o key names) ≡ named C u v f cards
-              by None = take_front (named C u v f cards) _
-              by (Some e) = take_front (named C u v f cards) _
+              by None = take-append_seam (named C u v f cards) _
+              by (Some e) = take-append_seam (named C u v f cards) _
 
           -- the late questions refuse with e
           refused : (e : ℕ) → first_no (late_questions C u v f cards) ≡ Some e
@@ -204,15 +201,14 @@ module _ {C : Codes} {u v : ℕ} (L : DoublableLaws C u v) (f : Figures) where
                   (λ p k. let r = kept_in (passes C h) points p k in eqb-true _ _ (every_in (passes C g) points p e r.0) ∙ sym
                   (eqb-true _ _ r.1))
 
-              off : (g : List ℕ) → CodesOf C.size f.k g → (every (passes C g) points ≡ true) ⊎ (every (passes C g) points ≡ false)
-                  → every (passes C g) points ≡ false
-              off g hg (inl e) = absurd (true≢false (sym (ap (λ z. every (passes C z) points) (sym (only g hg e)) ∙ e) ∙ not-all))
-              off g hg (inr e) = e
+              off : (g : List ℕ) → CodesOf C.size f.k g → every (passes C g) points ≡ false
+              off g hg =
+                  false_from_ne_true _ (λ e. true≢false (sym (ap (λ z. every (passes C z) points) (sym (only g hg e)) ∙ e) ∙ not-all))
 
               none : value_curves C u v f cards j ≡ []
               none =
                   ap (λ z. filter (λ g. every (passes C g) (map (value_point j) z)) (polynomials C.size f.k)) unnamed_is
-                  ∙ kept_none _ (polynomials C.size f.k) (λ g k. off g (polynomials_are _ _ g k) (cases_Bool (every (passes C g) points)))
+                  ∙ kept_none _ (polynomials C.size f.k) (λ g k. off g (polynomials_are _ _ g k))
 
           module _ (F : ℕ → List ℕ) (goodF : (j : ℕ) → j < f.d → CodesOf C.size f.k (F j))
               (on : (a : ℕ × Card) → In a (lying cards) → misses C u v f G a ≡ false → (j : ℕ) → j < f.d → value_at_lem C (F j) a.0 ≡ (pair_at

@@ -3,6 +3,7 @@
 use Rattle.std.proofs.Common.{◌≡◌, ℕ, ◌+◌, ◌-◌, ◌<◌, ◌≤◌, Bool, true, false, cond, not, leb, ◌⊎◌, List, [], ◌∷◌, ◌++◌, map, length, get_or, replicate, Some, None, Ok, Err, filter, Option, Result, sym, refl, ap, ◌∙◌, subst, ap₂, inl, inr, arith}
 use Rattle.std.specs.List.{range_with_len, AllByRecursion}
 use Rattle.std.proofs.ByRecursion.{All-weaker}
+use Rattle.std.proofs.lemmas.List.{nil_from_length}
 use Rattle.std.proofs.lemmas.Bool.{le-leb, leb-false, eq-eqb, cond-true, cases_Bool}
 use Rattle.algebra.specs.Count.{In}
 use Rattle.algebra.proofs.Counting.{all_in, all_from_in}
@@ -52,10 +53,10 @@ module _ (C : Codes) (u v : ℕ) (L : DoublableLaws C u v) (f : Figures) (cards 
   opened_is b e = ap closed (early_is ∙ ap (λ b. cond b None (Some 34)) e)
 
   same_number : (a b : ℕ × ℕ) → ◌≡◌ {A = Result (ℕ × ℕ) (ℕ × ℕ)} (Err a) (Err b) → a.0 ≡ b.0
-  same_number a b e = let h : a ≡ b = cc in ap (λ z. z.0) h
+  same_number a b e = cc
 
   not_ok : (a b : ℕ × ℕ) → ◌≡◌ {A = Result (ℕ × ℕ) (ℕ × ℕ)} (Ok a) (Err b) → ⊥
-  not_ok a b e = let z : ◌≡◌ {A = ℕ} 0 1 = cc in omega arith
+  not_ok a b e = cc
 
   -- where something fits everywhere, only 36 and 37 refuse
   not_late : (e count : ℕ) → e < 36 → (closed None).answer ≡ Err (e, count) → ⊥
@@ -63,9 +64,7 @@ module _ (C : Codes) (u v : ℕ) (L : DoublableLaws C u v) (f : Figures) (cards 
       by (leb f.k (length (unnamed C u v f cards))) (every (λ j. leb 1 (length (value_curves C u v f cards j))) (places f))
     where
       by : (a b : Bool) → (concluded C u v f cards None (first_no ((a, 36) ∷ (b, 37) ∷ [])) key names).answer ≡ Err (e, count) → ⊥
-      by true true h = not_ok _ _ h
-      by true false h = let z = same_number _ _ h in omega arith
-      by false b h = let z = same_number _ _ h in omega arith
+      by a b h = grind arith
 
   settles : Settles C u v f cards key names
   settles = record {
@@ -77,16 +76,12 @@ module _ (C : Codes) (u v : ℕ) (L : DoublableLaws C u v) (f : Figures) (cards 
     never_two_fit = λ count e. never count (cases_Bool some_fits) e;
   }
     where
-      empty : {A : Type 0} (l : List A) → leb 1 (length l) ≡ false → l ≡ []
-      empty [] e = refl
-      empty (a ∷ l) e = absurd (omega (arith, leb-false 1 (length (a ∷ l)) e))
-
       refused : (count : ℕ) → (some_fits ≡ true) ⊎ (some_fits ≡ false) → (opened C u v f cards key names).answer ≡ Err (34, count)
           → (j : ℕ) × (j < f.d) × (fitting_at C u v f cards j ≡ [])
       refused count (inl h) e = absurd (not_late 34 count (omega arith) (sym (ap (λ (o : Opening). o.answer) (opened_is true h)) ∙ e))
       refused count (inr h) e =
           let r = not_every_in (λ j. leb 1 (length (fitting_at C u v f cards j))) (places f) h in
-          (r.0, place_below f.d r.0 r.1, empty (fitting_at C u v f cards r.0) r.2)
+          (r.0, place_below f.d r.0 r.1, nil_from_length (fitting_at C u v f cards r.0) (omega (arith, leb-false 1 _ r.2)))
 
       never : (count : ℕ) → (some_fits ≡ true) ⊎ (some_fits ≡ false) → (opened C u v f cards key names).answer ≡ Err (35, count) → ⊥
       never count (inl h) e = not_late 35 count (omega arith) (sym (ap (λ (o : Opening). o.answer) (opened_is true h)) ∙ e)
@@ -105,12 +100,9 @@ dealt_cards_open_lem D cards size alone buffer names first =
     (subst (λ l. figures.k ≤ length l) (sym (kept_all (λ a. not (strays D c a)) (lying cards) (λ a k. ap not (stays a k)))) first.enough)
     ∙ ap₂ (λ (l s : List ℕ). record { answer = Ok (length (lying cards), length l); key = s; names = l ++ replicate (length names - length l) 0 })
     (ap (map number) (kept_none (strays D c) (lying cards) stays)) (key_is D)
-    ∙ ap (λ n. record { answer = Ok (length (lying cards), 0); key = D.key; names = replicate n 0 }) (less_zero (length names))
+    ∙ ap (λ n. record { answer = Ok (length (lying cards), 0); key = D.key; names = replicate n 0 }) (omega arith)
   where
     open D use {codes, u, v, laws, figures}
-
-    less_zero : (n : ℕ) → n - 0 ≡ n
-    less_zero n = omega arith
 
     c : Choice
     c = dealt_choice D

@@ -5,7 +5,7 @@ use Rattle.std.proofs.Common.{◌≡◌, ℕ, zero, suc, ◌+◌, ◌-◌, ◌<�
 use Rattle.std.specs.List.{AllByRecursion}
 use Rattle.std.proofs.lemmas.List.Elements.{filter-append}
 use Rattle.std.proofs.ByRecursion.{All-weaker}
-use Rattle.std.proofs.lemmas.Bool.{leb-true, leb-false, eqb-true, eqb-false, ltb-true, or_cases, cases_Bool}
+use Rattle.std.proofs.lemmas.Bool.{leb-true, leb-false, eqb-true, eqb-false, ltb-true, or_cases, false_from_ne_true}
 use Rattle.algebra.specs.Count.{In}
 use Rattle.fields.specs.P251.{p251}
 use Rattle.fields.specs.Doubled.{doubled, sum2, product2}
@@ -143,13 +143,7 @@ fits_four = fits (doubled p251 0 250) (map (tag_point p251 0) (lying two_altered
 
 -- both pass a test, or at most one is kept
 both : (test : ℕ × ℕ → Bool) (a b : ℕ × ℕ) → (every test (a ∷ b ∷ []) ≡ true) ⊎ (length (filter test (a ∷ b ∷ [])) ≤ 1)
-both test a b = by (test a) (test b)
-  where
-    by : (s t : Bool) → ((s && (t && true)) ≡ true) ⊎ (length (cond s (a ∷ cond t (b ∷ []) []) (cond t (b ∷ []) [])) ≤ 1)
-    by true true = inl refl
-    by true false = inr (omega arith)
-    by false true = inr (omega arith)
-    by false false = inr (omega arith)
+both test a b = grind arith
 
 -- a polynomial of two coefficients through two points is h
 through_two : (points : List (ℕ × ℕ)) → length points ≡ 2 → Plane (doubled p251 0 250) points → (g h : List ℕ) → CodesOf 63001 2 g
@@ -188,8 +182,4 @@ pub four_fit_none : opened p251 0 250 five two_altered (9 ∷ []) nines ≡ reco
 four_fit_none =
     (fitting_settles_lem p251 0 250 p251_doublable five two_altered (record { place_each = refl; right_cards = (refl, (refl, (refl, (refl, tt)))) })
     (9 ∷ []) nines (asked 4 refl)).none_fits_refused 0 (lit≤ tt)
-    (kept_none fits_four (polynomials 63001 2) (λ g k. off g (polynomials_are 63001 2 g k) (cases_Bool (fits_four g))))
-  where
-    off : (g : List ℕ) → CodesOf 63001 2 g → (fits_four g ≡ true) ⊎ (fits_four g ≡ false) → fits_four g ≡ false
-    off g hg (inl e) = absurd (none_fits g hg e)
-    off g hg (inr e) = e
+    (kept_none fits_four (polynomials 63001 2) (λ g k. false_from_ne_true _ (none_fits g (polynomials_are 63001 2 g k))))

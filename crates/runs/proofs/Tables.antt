@@ -13,19 +13,13 @@ use Rattle.scheme.proofs.Acceptance.{all_yes}
 use Rattle.scheme.proofs.Enumerated.{in_counting, counting_in}
 use Rattle.runs.specs.Cards.{Card, Cards, card_of, lying, is_coded_lem, is_participant, card_questions, card_refusal, present_refusal, withdraw_refusal, settled}
 use Rattle.runs.specs.Runs.{Run, start, ◌then◌, Call, present, withdraw, seal, reopen, opens, table, present_accepted, withdraw_accepted, lies, numbers_lying}
-use Rattle.runs.proofs.Lists.{some_not_none, same_some, no_refusal}
+use Rattle.runs.proofs.Lists.{no_refusal}
 use Rattle.runs.proofs.Collected.{number, collect, in_collect, collect_in, collect_same, numbers_collected, lying_is}
 
 -- what lies after a present is its card, where it is accepted, or lay before
 pub after_present : (h i : ℕ) (y x : Card) (accepted : Bool) (o : Option Card) → cond (eqb h i && accepted) (Some y) o ≡ Some x
     → ((accepted ≡ true) × (h ≡ i) × (y ≡ x)) ⊎ (o ≡ Some x)
-after_present h i y x accepted o e = by (eqb h i) accepted refl refl e
-  where
-    by : (a b : Bool) → eqb h i ≡ a → accepted ≡ b → cond (a && b) (Some y) o ≡ Some x
-        → ((accepted ≡ true) × (h ≡ i) × (y ≡ x)) ⊎ (o ≡ Some x)
-    by true true p r e = inl (r, eqb-true h i p, same_some y x e)
-    by true false p r e = inr e
-    by false b p r e = inr e
+after_present h i y x accepted o e = grind arith
 
 module _ (C : Codes) (f : Figures) where
   pub participant_low : (i : ℕ) → is_participant C f i ≡ true → 1 ≤ i
@@ -52,11 +46,7 @@ module _ (C : Codes) (f : Figures) where
       let yes = all_yes (card_questions C f i card ++ (not (is_some old), 44) ∷ []) e in (yes.0, eqb-true _ _ yes.1.0, yes.1.1.0)
 
   pub accepted_right : (old : Option Card) (i : ℕ) (card : Card) → present_accepted C f old i card ≡ true → RightCard i card
-  accepted_right old i card e = by (present_refusal C f old i card) refl e
-    where
-      by : (r : Option ℕ) → present_refusal C f old i card ≡ r → not (is_some r) ≡ true → RightCard i card
-      by None q e = unrefused_right old i card q
-      by (Some x) q e = absurd (true≢false (sym e))
+  accepted_right old i card e = grind (arith, unrefused_right old i card)
 
   -- ---- only whether a card lies decides the questions, and only where i is a participant
 
@@ -68,11 +58,7 @@ module _ (C : Codes) (f : Figures) where
 
   where_participant : (i : ℕ) (x y : Option ℕ) → (is_participant C f i ≡ true → x ≡ y)
       → cond (is_participant C f i) x (Some 41) ≡ cond (is_participant C f i) y (Some 41)
-  where_participant i x y = by (is_participant C f i)
-    where
-      by : (b : Bool) → (b ≡ true → x ≡ y) → cond b x (Some 41) ≡ cond b y (Some 41)
-      by true h = h refl
-      by false h = refl
+  where_participant i x y h = grind arith
 
   present_where : (x y : Option Card) (i : ℕ) (card : Card) → (is_participant C f i ≡ true → x ≡ y)
       → present_refusal C f x i card ≡ present_refusal C f y i card
@@ -92,28 +78,12 @@ module _ (C : Codes) (f : Figures) where
   settled_at : (r : Option ℕ) (T : Cards) (h i : ℕ) (new l : Option Card) → length T ≡ f.n
       → (r ≡ None → is_participant C f h ≡ true) → is_participant C f i ≡ true → card_of T i ≡ l
       → card_of (settled C f r T h new).1 i ≡ cond (eqb h i && not (is_some r)) new l
-  settled_at (Some x) T h i new l e n m k = k ∙ sym (ap (λ b. cond b new l) (and_right (eqb h i) false refl))
-  settled_at None T h i new l e n m k = by (cases_eq h i)
-    where
-      nh : 1 ≤ h
-      nh = participant_low h (n refl)
-
-      ni : 1 ≤ i
-      ni = participant_low i m
-
-      hi : i ≤ f.n
-      hi = participant_high i m
-
-      same : h ≡ i → get_or (set T (h - 1) new) (i - 1) None ≡ new
-      same q =
-          ap (λ z. get_or (set T (z - 1) new) (i - 1) None) q ∙ get_or-set_same T (i - 1) new None (let a = ni in let b = hi in omega arith)
-
-      other : (h ≡ i → ⊥) → i - 1 ≡ h - 1 → ⊥
-      other q z = q (let a = ni in let b = nh in omega arith)
-
-      by : (h ≡ i) ⊎ (h ≡ i → ⊥) → get_or (set T (h - 1) new) (i - 1) None ≡ cond (eqb h i && true) new l
-      by (inl q) = same q ∙ sym (ap (λ b. cond (b && true) new l) (eq-eqb h i q))
-      by (inr q) = get_or-set_other T (h - 1) (i - 1) new None (other q) ∙ k ∙ sym (ap (λ b. cond (b && true) new l) (ne_eqb h i q))
+  settled_at (Some x) T h i new l e n m k = grind arith
+  settled_at None T h i new l e n m k =
+      let nh = participant_low h (n refl) in
+      let ni = participant_low i m in
+      let hi = participant_high i m in
+      grind (arith, get_or-set_same T (i - 1) new None, get_or-set_other T (h - 1) (i - 1) new None)
 
   withdraw_participant : (old : Option Card) (i : ℕ) → withdraw_refusal C f old i ≡ None → is_participant C f i ≡ true
   withdraw_participant old i e = (all_yes ((is_participant C f i, 41) ∷ (is_some old, 45) ∷ []) e).0
@@ -121,19 +91,15 @@ module _ (C : Codes) (f : Figures) where
   -- ---- what lies passed the questions about a card
 
   pub lies_right : (past : Run Call) (i : ℕ) (card : Card) → lies C f past i ≡ Some card → RightCard i card
-  lies_right start i card e = absurd (some_not_none card (sym e))
+  lies_right start i card e = cc
   lies_right (past then present h x) i card e =
-      by (after_present h i x card (present_accepted C f (lies C f past h) h x) (lies C f past i) e) (lies_right past i card)
-    where
-      by : ((present_accepted C f (lies C f past h) h x ≡ true) × (h ≡ i) × (x ≡ card)) ⊎ (lies C f past i ≡ Some card)
-          → (lies C f past i ≡ Some card → RightCard i card) → RightCard i card
-      by (inl r) ih = subst (λ z. RightCard z card) r.1 (subst (RightCard h) r.2 (accepted_right (lies C f past h) h x r.0))
-      by (inr k) ih = ih k
-  lies_right (past then withdraw h) i card e = by (eqb h i && withdraw_accepted C f (lies C f past h) h) e (lies_right past i card)
-    where
-      by : (b : Bool) → cond b None (lies C f past i) ≡ Some card → (lies C f past i ≡ Some card → RightCard i card) → RightCard i card
-      by true e ih = absurd (some_not_none card (sym e))
-      by false e ih = ih e
+      grind (
+        arith,
+        after_present h i x card (present_accepted C f (lies C f past h) h x) (lies C f past i) e,
+        accepted_right (lies C f past h) h x,
+        lies_right past i card,
+      )
+  lies_right (past then withdraw h) i card e = grind (arith, lies_right past i card)
   lies_right (past then seal) i card e = lies_right past i card e
   lies_right (past then reopen) i card e = lies_right past i card e
   lies_right (past then opens key names) i card e = lies_right past i card e

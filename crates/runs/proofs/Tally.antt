@@ -9,7 +9,7 @@ use Rattle.std.proofs.ByRecursion.{All-get_or, All-map, All-weaker}
 use Rattle.std.proofs.lemmas.Bool.{eqb-true, eqb-false, eq-eqb, not-true, not-false}
 use Rattle.algebra.specs.Polynomial.{Apart}
 use Rattle.algebra.specs.Count.{In, Exactly, AtEach}
-use Rattle.algebra.proofs.Counting.{all_in, all_from_in, in_self, exactly_iff, exactly_each, product_same, product_free, free}
+use Rattle.algebra.proofs.Counting.{all_in, all_from_in, in_self, exactly_iff, exactly_each, product_same, product_free, free, free_kept}
 use Rattle.fields.specs.Doubled.{doubled, join}
 use Rattle.fields.specs.DoubledLaws.{doubled_laws}
 use Rattle.scheme.specs.Polynomial.{value_at_lem}
@@ -34,21 +34,13 @@ each_from P a zero [] e h k = tt
 each_from P a zero (x ∷ l) e h k = absurd (omega arith)
 each_from P a (suc n) [] e h k = absurd (omega arith)
 each_from P a (suc n) (x ∷ l) e h k = (
-  subst (λ z. P z x) (first a) (k 0 (omega arith)),
-  each_from P (a + 1) n l e (omega arith) (λ j m. subst (λ z. P z (get_or l j e)) (next a j) (k (suc j) (omega arith))),
+  subst (λ z. P z x) (omega arith) (k 0 (omega arith)),
+  each_from P (a + 1) n l e (omega arith) (λ j m. subst (λ z. P z (get_or l j e)) (omega arith) (k (suc j) (omega arith))),
 )
-  where
-    first : (a : ℕ) → a + 0 ≡ a
-    first a = omega arith
-
-    next : (a j : ℕ) → a + suc j ≡ a + 1 + j
-    next a j = omega arith
 
 each_length : {A : Type 0} (P : ℕ → A → Type 0) (is : List ℕ) (l : List A) → AtEach P is l → length l ≡ length is
-each_length P [] [] h = refl
-each_length P [] (x ∷ l) h = absurd h
-each_length P (i ∷ is) [] h = absurd h
-each_length P (i ∷ is) (x ∷ l) h = ap suc (each_length P is l h.1)
+each_length P [] l h = grind arith
+each_length P (i ∷ is) l h = grind (arith, each_length P is)
 
 each_at : {A : Type 0} (P : ℕ → A → Type 0) (a n : ℕ) (l : List A) (e : A) → AtEach P (range_with_len a n) l
     → (j : ℕ) → j < n → P (a + j) (get_or l j e)
@@ -59,26 +51,12 @@ each_at P a (suc n) (x ∷ l) e h (suc j) k = subst (λ z. P z (get_or l j e)) (
 
 each_all : {A : Type 0} (P : A → Type 0) (R : ℕ → A → Type 0) (is : List ℕ) (l : List A) → ((j : ℕ) (a : A) → R j a → P a)
     → AtEach R is l → AllByRecursion P l
-each_all P R [] [] t h = tt
-each_all P R [] (x ∷ l) t h = absurd h
-each_all P R (i ∷ is) [] t h = absurd h
-each_all P R (i ∷ is) (x ∷ l) t h = (t i x h.0, each_all P R is l t h.1)
+each_all P R [] l t h = grind arith
+each_all P R (i ∷ is) l t h = grind (arith, each_all P R is)
 
 each_weaker : {A : Type 0} (P R : ℕ → A → Type 0) (is : List ℕ) (l : List A) → ((j : ℕ) (a : A) → P j a → R j a) → AtEach P is l → AtEach R is l
-each_weaker P R [] [] t h = tt
-each_weaker P R [] (x ∷ l) t h = h
-each_weaker P R (i ∷ is) [] t h = h
-each_weaker P R (i ∷ is) (x ∷ l) t h = (t i x h.0, each_weaker P R is l t h.1)
-
--- places that are free and places that are not
-free_kept : (fixed : ℕ → Bool) (is : List ℕ) → free fixed is + length (filter fixed is) ≡ length is
-free_kept fixed [] = refl
-free_kept fixed (i ∷ is) = by (fixed i) (free_kept fixed is)
-  where
-    by : (b : Bool) → free fixed is + length (filter fixed is) ≡ length is
-        → (cond b 0 1 + free fixed is) + length (cond b (i ∷ filter fixed is) (filter fixed is)) ≡ suc (length is)
-    by true h = omega arith
-    by false h = omega arith
+each_weaker P R [] l t h = grind arith
+each_weaker P R (i ∷ is) l t h = grind (arith, each_weaker P R is)
 
 all_unmap : {A B : Type 0} (P : B → Type 0) (g : A → B) (l : List A) → AllByRecursion P (map g l) → AllByRecursion (λ a. P (g a)) l
 all_unmap P g [] h = tt
@@ -233,11 +211,7 @@ module _ (D : Deal) (group : List ℕ) (grp : Group D.figures group) where
           (off, points_apart j l)))
 
       count_at : (j : ℕ) → j < figures.d → Exactly (cond (value_altered dealt x j) 1 (q D)) (Deceived j)
-      count_at j l = by (value_altered dealt x j) refl
-        where
-          by : (b : Bool) → value_altered dealt x j ≡ b → Exactly (cond b 1 (q D)) (Deceived j)
-          by true e = count_at_altered j l e
-          by false e = count_at_dealt j l e
+      count_at j l = grind (arith, count_at_altered j l, count_at_dealt j l)
 
       pub unnamed_count : Exactly (q D ^ (figures.d - altered_values figures dealt x)) (λ c. Deals D group c × (strays D c (i, x) ≡ false))
       unnamed_count =
