@@ -1,5 +1,5 @@
 // The call `deal`.
-ghost use Rattle.std.specs.Prelude.{◌≡◌, ◌+◌, ◌-◌, ◌*◌, ◌<◌, ◌≤◌, ◌&&◌, ◌∷◌, length};
+ghost use Rattle.std.specs.Prelude.{◌≡◌, ◌+◌, ◌-◌, ◌*◌, ◌<◌, ◌≤◌, ◌&&◌, ◌∷◌, length, nat_lt};
 ghost use Rattle.scheme.specs.Accepted.{Accepted, refusal_told};
 ghost use Rattle.scheme.specs.Dealing.{at_place, deal_number, deal_refusal, deal_told, dealing, dealt_pair, dealt_share, dealt_shares, has_top, places, tag_polynomial, value_polynomial};
 ghost use Rattle.scheme.specs.Questions.{all_codes, every};
@@ -51,16 +51,18 @@ impl DealFault {
     }
 }
 
+// Whether n is the code of an element.
+pub fn is_code<F: Field>(n: u64) -> bool
+    ensures { result ≡ nat_lt n F.codes.size }
+{
+    F::from_code(n).is_some()
+}
+
 // Whether every number is the code of an element.
 pub fn are_codes<F: Field>(numbers: &[u64]) -> bool
     ensures { result ≡ all_codes F.codes.size numbers.now }
 {
-    for n in numbers {
-        if F::from_code(*n).is_none() {
-            return false;
-        }
-    }
-    true
+    numbers.iter().all(|n| is_code::<F>(*n))
 }
 
 // Whether key and value coefficients are codes of the field, and tag coefficients codes of the doubled field.
