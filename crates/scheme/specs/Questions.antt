@@ -1,6 +1,6 @@
 -- Questions that a call puts in their order, each with the number that refuses where the answer is no.
 -- Assumes nothing.
-use Rattle.std.specs.Prelude.{ℕ, Bool, true, cond, List, [], ◌∷◌, Some, None, Ok, Err, Option, Result, nat_lt}
+use Rattle.std.specs.Prelude.{ℕ, Bool, cond, List, [], ◌∷◌, Some, None, Ok, Err, Option, Result, nat_lt}
 use Rattle.std.specs.List.{list_all}
 
 -- the number of the first question whose answer is no
