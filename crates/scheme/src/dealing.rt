@@ -92,20 +92,6 @@ fn coefficients_at(coefficients: &[u64], width: usize, j: usize) -> &[u64]
     &coefficients[start..start + width]
 }
 
-// Whether the highest value coefficient of every place is other than zero.
-fn have_tops(figures: &Figures, key: &[u64], values: &[u64]) -> bool
-    requires { (length values.now ≡ figures.now.d * (figures.now.k - 1)) × (2 ≤ figures.now.k) }
-    ensures { result ≡ every (has_top figures.now key.now values.now) (places figures.now) }
-{
-    let width = figures.k - 1;
-    for j in 0..figures.d {
-        if values[j * width + (width - 1)] == 0 {
-            return false;
-        }
-    }
-    true
-}
-
 impl<'a, F: Doublable> Secret<'a, F> {
     // Puts the questions of `deal`, for a buffer of `room` pairs.
     fn new(
@@ -130,16 +116,35 @@ impl<'a, F: Doublable> Secret<'a, F> {
         if !(are_codes::<F>(key) && are_codes::<F>(values) && are_codes::<Doubled<F>>(tags)) {
             return Err(DealFault::Code);
         }
-        if figures.k >= 2 && !have_tops(figures, key, values) {
-            return Err(DealFault::TopCoefficient);
-        }
-        Ok(Secret {
+        let secret = Secret {
             figures: *figures,
             key,
             values,
             tags,
             field: PhantomData,
-        })
+        };
+        if figures.k >= 2 && !secret.have_tops() {
+            return Err(DealFault::TopCoefficient);
+        }
+        Ok(secret)
+    }
+
+    // Whether the highest value coefficient of place j is other than zero.
+    fn has_top(&self, j: usize) -> bool
+        requires j_in { j < self.now.figures.d }
+        requires k_in { 2 ≤ self.now.figures.k }
+        ensures { result ≡ has_top self.now.figures self.now.key.now self.now.values.now j }
+    {
+        let of_place = coefficients_at(self.values, self.figures.k - 1, j);
+        of_place[self.figures.k - 2] != 0
+    }
+
+    // Whether the highest value coefficient of every place is.
+    fn have_tops(&self) -> bool
+        requires { 2 ≤ self.now.figures.k }
+        ensures { result ≡ every (has_top self.now.figures self.now.key.now self.now.values.now) (places self.now.figures) }
+    {
+        (0..self.figures.d).all(|j| self.has_top(j))
     }
 
     // What participant i holds for place j.
