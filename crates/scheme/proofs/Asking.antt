@@ -1,9 +1,9 @@
 -- A loop that asks one question of each element, and stops at the first no.
 -- Assumes nothing.
-use Rattle.std.proofs.Common.{◌≡◌, ℕ, ◌+◌, ◌<◌, ◌≤◌, Bool, true, false, ◌&&◌, ltb, List, [], ◌∷◌, length, get_or, drop, is_some, Some, None, Option, sym, ap, ◌∙◌, subst, zero-add, MatchOption}
-use Rattle.std.specs.List.{AllByRecursion, range_with_len}
-use Rattle.std.proofs.lemmas.List.FromFn.{length-range_with_len, get_or-range_with_len}
-use Rattle.std.proofs.lemmas.List.{at_drop_more, at_drop_all}
+use Rattle.std.proofs.Common.{◌≡◌, ℕ, ◌+◌, ◌<◌, ◌≤◌, Bool, true, false, ◌&&◌, ltb, List, [], ◌∷◌, length, get_or, take, drop, is_some, Some, None, Option, sym, ap, ◌∙◌, subst, MatchOption}
+use Rattle.std.specs.List.{AllByRecursion}
+use Rattle.std.proofs.lemmas.List.{at_drop_more, at_drop_all, take-append-drop}
+use Rattle.std.proofs.lemmas.List.Folds.{list_all-append}
 use Rattle.std.proofs.lemmas.Bool.{and_left, and_parts, lt-ltb, le-ltb, ltb-true}
 use Rattle.scheme.specs.Questions.{every, all_codes}
 
@@ -17,18 +17,12 @@ module _ {A : Type 0} (test : A → Bool) (list : List A) (i : ℕ) (d : A) wher
   pub every_done : length list ≤ i → every test (drop i list) ≡ true
   every_done h = at_drop_all (every test) list i h
 
--- the same over the numbers below n
-module _ (test : ℕ → Bool) (n i : ℕ) where
-  pub below_yes : i < n → test i ≡ true → every test (drop i (range_with_len 0 n)) ≡ every test (drop (i + 1) (range_with_len 0 n))
-  below_yes h e =
-      every_yes test (range_with_len 0 n) i 0 (rw length-range_with_len h) (ap test (get_or-range_with_len 0 n i 0 h ∙ zero-add i) ∙ e)
-
-  pub below_no : i < n → test i ≡ false → every test (drop i (range_with_len 0 n)) ≡ false
-  below_no h e =
-      every_no test (range_with_len 0 n) i 0 (rw length-range_with_len h) (ap test (get_or-range_with_len 0 n i 0 h ∙ zero-add i) ∙ e)
-
-  pub below_done : n ≤ i → every test (drop i (range_with_len 0 n)) ≡ true
-  below_done h = every_done test (range_with_len 0 n) i 0 (rw length-range_with_len h)
+-- what passes throughout passes in each part
+pub every_part : {A : Type 0} (test : A → Bool) (n m : ℕ) (list : List A) → every test list ≡ true → every test (take n (drop m list)) ≡ true
+every_part test n m list e =
+    let behind = and_parts (every test (take m list)) (every test (drop m list)) (sym (list_all-append test (take m list) (drop m list)) ∙ ap (every test) (take-append-drop m list) ∙ e) in
+    let rest = drop m list in
+    (and_parts (every test (take n rest)) (every test (drop n rest)) (sym (list_all-append test (take n rest) (drop n rest)) ∙ ap (every test) (take-append-drop n rest) ∙ behind.1)).0
 
 pub all_from_every : {A : Type 0} (test : A → Bool) (P : A → Type 0) → ((a : A) → test a ≡ true → P a) → (list : List A) → every test list ≡ true → AllByRecursion P list
 all_from_every test P f [] e = tt

@@ -8,4 +8,3 @@ pub mod PointQuestions
 pub mod Points
 pub mod Polynomials
 pub mod Stepping
-pub mod Tops

@@ -16,6 +16,6 @@ pub record Accepted (C : Codes) (f : Figures) (key values tags : List ℕ) : Typ
   pub tags_codes : AllByRecursion (λ a. a < C.size * C.size) tags
 
 -- the number of the refusal, if any
-abbrev pub refusal_told : Result (Unit {0}) DealFault → Option ℕ
+abbrev pub refusal_told : {A : Type 0} → Result A DealFault → Option ℕ
 refusal_told (Ok _) = None
 refusal_told (Err e) = Some (deal_number e)

@@ -1,6 +1,7 @@
 -- Questions that a call puts in their order, each with the number that refuses where the answer is no.
 -- Assumes nothing.
-use Rattle.std.specs.Prelude.{ℕ, Bool, true, cond, ◌&&◌, List, [], ◌∷◌, Some, None, Ok, Err, Option, Result, nat_lt}
+use Rattle.std.specs.Prelude.{ℕ, Bool, cond, List, [], ◌∷◌, Some, None, Ok, Err, Option, Result, nat_lt}
+use Rattle.std.specs.List.{list_all}
 
 -- the number of the first question whose answer is no
 abbrev pub first_no : List (Bool × ℕ) → Option ℕ
@@ -14,8 +15,7 @@ unless (Some e) a = Err e
 
 -- the test passes at each element
 abbrev pub every : {A : Type 0} → (A → Bool) → List A → Bool
-every test [] = true
-every test (a ∷ list) = test a && every test list
+every = list_all
 
 -- every number is below the size of its field
 abbrev pub all_codes : ℕ → List ℕ → Bool

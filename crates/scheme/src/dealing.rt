@@ -1,5 +1,5 @@
 // The call `deal`.
-ghost use Rattle.std.specs.Prelude.{◌≡◌, ◌+◌, ◌-◌, ◌*◌, ◌<◌, ◌≤◌, ◌&&◌, ◌∷◌, length};
+ghost use Rattle.std.specs.Prelude.{◌≡◌, ◌+◌, ◌-◌, ◌*◌, ◌<◌, ◌≤◌, ◌&&◌, ◌∷◌, length, nat_lt, IfOk, IsTrue};
 ghost use Rattle.scheme.specs.Accepted.{Accepted, refusal_told};
 ghost use Rattle.scheme.specs.Dealing.{at_place, deal_number, deal_refusal, deal_told, dealing, dealt_pair, dealt_share, dealt_shares, has_top, places, tag_polynomial, value_polynomial};
 ghost use Rattle.scheme.specs.Questions.{all_codes, every};
@@ -8,6 +8,34 @@ ghost use Rattle.std.specs.List.{AllByRecursion};
 use crate::polynomial::{element, evaluate};
 use crate::types::{DealFault, Figures, Pair};
 use fields::{Doublable, Doubled, Field, Twice};
+use std::marker::PhantomData;
+
+// What a dealing takes and makes.
+impl Figures {
+    // how many value coefficients a dealing takes: k - 1 for each symbol
+    pub fn value_coefficients(&self) -> usize
+        ensures value { result ≡ self.now.d * (self.now.k - 1) }
+        ensures bound { result ≤ 2048 }
+    {
+        self.d * (self.k - 1)
+    }
+
+    // how many tag coefficients a dealing takes: t + 1 for each symbol
+    pub fn tag_coefficients(&self) -> usize
+        ensures value { result ≡ self.now.d * (self.now.t + 1) }
+        ensures bound { result ≤ 1024 }
+    {
+        self.d * (self.t + 1)
+    }
+
+    // how many pairs a dealing makes: one for each participant and symbol
+    pub fn pairs(&self) -> usize
+        ensures value { result ≡ self.now.n * self.now.d }
+        ensures bound { result ≤ 2048 }
+    {
+        self.n * self.d
+    }
+}
 
 impl DealFault {
     // the number of the refusal
@@ -24,58 +52,35 @@ impl DealFault {
     }
 }
 
+// Whether n is the code of an element.
+pub fn is_code<F: Field>(n: u64) -> bool
+    ensures { result ≡ nat_lt n F.codes.size }
+{
+    F::from_code(n).is_some()
+}
+
 // Whether every number is the code of an element.
 pub fn are_codes<F: Field>(numbers: &[u64]) -> bool
     ensures { result ≡ all_codes F.codes.size numbers.now }
 {
-    for n in numbers {
-        if F::from_code(*n).is_none() {
-            return false;
-        }
-    }
-    true
+    numbers.iter().all(|n| is_code::<F>(*n))
 }
 
-// Whether key and value coefficients are codes of the field, and tag coefficients codes of the doubled field.
-fn have_codes<F: Doublable>(key: &[u64], values: &[u64], tags: &[u64]) -> bool
-    ensures { result ≡ (all_codes F.Field.codes.size key.now && (all_codes F.Field.codes.size values.now && all_codes (F.Field.codes.size * F.Field.codes.size) tags.now)) }
-{
-    are_codes::<F>(key) && are_codes::<F>(values) && are_codes::<Doubled<F>>(tags)
-}
-
-// What participant i holds for one place, by its key symbol, value coefficients and tag coefficients.
-fn deal_pair<F: Doublable>(symbol: u64, values: &[u64], tags: &[u64], i: u64) -> Pair
-    requires symbol_in { symbol < F.Field.codes.size }
-    requires i_in { i < F.Field.codes.size }
-    requires values_in { AllByRecursion (λ a. a < F.Field.codes.size) values.now }
-    requires tags_in { AllByRecursion (λ a. a < F.Field.codes.size * F.Field.codes.size) tags.now }
-    ensures { result ≡ dealt_pair F.Field.codes F.Doublable.u F.Doublable.v (symbol ∷ values.now) tags.now i }
-{
-    let x = element::<F>(i);
-    let value = F::add(element::<F>(symbol), F::mul(x, evaluate::<F>(values, x)));
-    let point = Twice {
-        low: value,
-        high: x,
-    };
-    let tag = evaluate::<Doubled<F>>(tags, point);
-    Pair {
-        value: F::to_code(value),
-        tag: Doubled::<F>::to_code(tag),
-    }
-}
-
-// Whether the highest value coefficient of every place is other than zero.
-fn have_tops(figures: &Figures, key: &[u64], values: &[u64]) -> bool
-    requires { (length values.now ≡ figures.now.d * (figures.now.k - 1)) × (2 ≤ figures.now.k) }
-    ensures { result ≡ every (has_top figures.now key.now values.now) (places figures.now) }
-{
-    let width = figures.k - 1;
-    for j in 0..figures.d {
-        if values[j * width + (width - 1)] == 0 {
-            return false;
-        }
-    }
-    true
+// A key that has passed the questions of `deal` over the field F, with the coefficients of its polynomials. What the questions
+// settled stands in the type, so that only `Secret::new` asks it.
+#[derive(Drop)]
+struct Secret<'a, F: Doublable> {
+    figures: Figures,
+    key: &'a [u64],
+    values: &'a [u64],
+    tags: &'a [u64],
+    field: PhantomData<F>,
+    ghost key_length: { length key.now ≡ figures.d },
+    ghost values_length: { length values.now ≡ figures.d * (figures.k - 1) },
+    ghost tags_length: { length tags.now ≡ figures.d * (figures.t + 1) },
+    ghost key_codes: { IsTrue (all_codes F.Field.codes.size key.now) },
+    ghost values_codes: { IsTrue (all_codes F.Field.codes.size values.now) },
+    ghost tags_codes: { IsTrue (all_codes (F.Field.codes.size * F.Field.codes.size) tags.now) },
 }
 
 // The coefficients of place j, of which each place has `width`.
@@ -87,72 +92,94 @@ fn coefficients_at(coefficients: &[u64], width: usize, j: usize) -> &[u64]
     &coefficients[start..start + width]
 }
 
-// Participant i's share.
-fn deal_share<F: Doublable>(
-    figures: &Figures,
-    key: &[u64],
-    values: &[u64],
-    tags: &[u64],
-    i: u64,
-    share: &mut [Pair],
-)
-    requires accepted { Accepted F.Field.codes figures.now key.now values.now tags.now }
-    requires i_in { i < F.Field.codes.size }
-    requires share_len { length share.old ≡ figures.now.d }
-    ensures { share.new ≡ dealt_share F.Field.codes F.Doublable.u F.Doublable.v figures.now (value_polynomial figures.now key.now values.now) (tag_polynomial figures.now tags.now) i }
-{
-    for j in 0..figures.d {
-        let value_part = coefficients_at(values, figures.k - 1, j);
-        let tag_part = coefficients_at(tags, figures.t + 1, j);
-        share[j] = deal_pair::<F>(key[j], value_part, tag_part, i);
+impl<'a, F: Doublable> Secret<'a, F> {
+    // Puts the questions of `deal`, for a buffer of `room` pairs.
+    fn new(
+        figures: &Figures,
+        key: &'a [u64],
+        values: &'a [u64],
+        tags: &'a [u64],
+        room: usize,
+    ) -> Result<Self, DealFault>
+        ensures told { refusal_told result ≡ deal_refusal F.Field.codes F.Doublable.u F.Doublable.v figures.now key.now values.now tags.now room }
+        ensures same { IfOk result (λ s. (s.figures ≡ figures.now) × (s.key.now ≡ key.now) × (s.values.now ≡ values.now) × (s.tags.now ≡ tags.now)) }
+    {
+        if key.len() != figures.d {
+            return Err(DealFault::KeySymbols);
+        }
+        if values.len() != figures.value_coefficients() || tags.len() != figures.tag_coefficients() {
+            return Err(DealFault::Coefficients);
+        }
+        if room != figures.pairs() {
+            return Err(DealFault::Buffer);
+        }
+        if !(are_codes::<F>(key) && are_codes::<F>(values) && are_codes::<Doubled<F>>(tags)) {
+            return Err(DealFault::Code);
+        }
+        let secret = Secret {
+            figures: *figures,
+            key,
+            values,
+            tags,
+            field: PhantomData,
+        };
+        if figures.k >= 2 && !secret.have_tops() {
+            return Err(DealFault::TopCoefficient);
+        }
+        Ok(secret)
     }
-}
 
-// Puts the questions of `deal`, for a buffer of `room` pairs.
-fn ask<F: Doublable>(
-    figures: &Figures,
-    key: &[u64],
-    values: &[u64],
-    tags: &[u64],
-    room: usize,
-) -> Result<(), DealFault>
-    ensures { refusal_told result ≡ deal_refusal F.Field.codes F.Doublable.u F.Doublable.v figures.now key.now values.now tags.now room }
-{
-    if key.len() != figures.d {
-        return Err(DealFault::KeySymbols);
+    // Whether the highest value coefficient of place j is other than zero.
+    fn has_top(&self, j: usize) -> bool
+        requires j_in { j < self.now.figures.d }
+        requires k_in { 2 ≤ self.now.figures.k }
+        ensures { result ≡ has_top self.now.figures self.now.key.now self.now.values.now j }
+    {
+        let of_place = coefficients_at(self.values, self.figures.k - 1, j);
+        of_place[self.figures.k - 2] != 0
     }
-    if values.len() != figures.d * (figures.k - 1) || tags.len() != figures.d * (figures.t + 1) {
-        return Err(DealFault::Coefficients);
-    }
-    if room != figures.n * figures.d {
-        return Err(DealFault::Buffer);
-    }
-    if !have_codes::<F>(key, values, tags) {
-        return Err(DealFault::Code);
-    }
-    if figures.k >= 2 && !have_tops(figures, key, values) {
-        return Err(DealFault::TopCoefficient);
-    }
-    Ok(())
-}
 
-// Fills the buffer with the shares, participant after participant.
-fn write_shares<F: Doublable>(
-    figures: &Figures,
-    key: &[u64],
-    values: &[u64],
-    tags: &[u64],
-    shares: &mut [Pair],
-)
-    requires accepted { Accepted F.Field.codes figures.now key.now values.now tags.now }
-    requires shares_len { length shares.old ≡ figures.now.n * figures.now.d }
-    ensures { shares.new ≡ dealt_shares F.Field.codes F.Doublable.u F.Doublable.v figures.now key.now values.now tags.now }
-{
-    let d = figures.d;
-    for i in 0..figures.n {
-        let start = i * d;
-        let share = &mut shares[start..start + d];
-        deal_share::<F>(figures, key, values, tags, i as u64 + 1, share);
+    // Whether the highest value coefficient of every place is.
+    fn have_tops(&self) -> bool
+        requires { 2 ≤ self.now.figures.k }
+        ensures { result ≡ every (has_top self.now.figures self.now.key.now self.now.values.now) (places self.now.figures) }
+    {
+        (0..self.figures.d).all(|j| self.has_top(j))
+    }
+
+    // What participant i holds for place j.
+    #[tactic(auto, using(crate::proofs::Asking::every_part))]
+    fn pair(&self, i: u64, j: usize) -> Pair
+        requires i_in { i < F.Field.codes.size }
+        requires j_in { j < self.now.figures.d }
+        ensures { result ≡ dealt_pair F.Field.codes F.Doublable.u F.Doublable.v (value_polynomial self.now.figures self.now.key.now self.now.values.now j) (tag_polynomial self.now.figures self.now.tags.now j) i }
+    {
+        let x = element::<F>(i);
+        let values = coefficients_at(self.values, self.figures.k - 1, j);
+        let tags = coefficients_at(self.tags, self.figures.t + 1, j);
+        let value = F::add(element::<F>(self.key[j]), F::mul(x, evaluate::<F>(values, x)));
+        let point = Twice {
+            low: value,
+            high: x,
+        };
+        let tag = evaluate::<Doubled<F>>(tags, point);
+        Pair {
+            value: F::to_code(value),
+            tag: Doubled::<F>::to_code(tag),
+        }
+    }
+
+    // Fills the buffer with the shares, participant after participant: pair number `at` is for participant at / d + 1 and
+    // place at % d.
+    #[tactic(auto, using(std::proofs::lemmas::List::Edits::fill_by_more))]
+    fn write_shares(&self, shares: &mut [Pair])
+        requires shares_len { length shares.old ≡ self.now.figures.n * self.now.figures.d }
+        ensures { shares.new ≡ dealt_shares F.Field.codes F.Doublable.u F.Doublable.v self.now.figures self.now.key.now self.now.values.now self.now.tags.now }
+    {
+        let d = self.figures.d;
+        for (at, pair) in shares.iter_mut().enumerate() {
+            *pair = self.pair((at / d + 1) as u64, at % d);
+        }
     }
 }
 
@@ -167,7 +194,7 @@ pub fn deal<F: Doublable>(
 ) -> Result<usize, DealFault>
     ensures { (deal_told result, shares.new) ≡ dealing F.Field.codes F.Doublable.u F.Doublable.v figures.now key.now values.now tags.now shares.old }
 {
-    ask::<F>(figures, key, values, tags, shares.len())?;
-    write_shares::<F>(figures, key, values, tags, shares);
-    Ok(figures.n * figures.d)
+    let secret = Secret::<F>::new(figures, key, values, tags, shares.len())?;
+    secret.write_shares(shares);
+    Ok(figures.pairs())
 }

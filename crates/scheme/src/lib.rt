@@ -11,7 +11,7 @@ mod polynomial;
 mod types;
 
 pub use arithmetic::value_at;
-pub use dealing::{are_codes, deal};
+pub use dealing::{are_codes, deal, is_code};
 pub use figures_call::figures;
 pub use fitting::{decode, interpolate, interpolate_at};
 pub use held::Polynomial;

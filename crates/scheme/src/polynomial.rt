@@ -1,7 +1,7 @@
 // Polynomials by the codes of their coefficients, lowest power first.
-ghost use Rattle.std.specs.Prelude.{◌≡◌, ◌<◌};
+ghost use Rattle.std.specs.Prelude.{◌≡◌, ◌<◌, IsTrue};
 ghost use Rattle.scheme.specs.Polynomial.{value_at_lem};
-ghost use Rattle.std.specs.List.{AllByRecursion};
+ghost use Rattle.scheme.specs.Questions.{all_codes};
 
 use fields::Field;
 
@@ -15,12 +15,12 @@ pub(crate) fn element<F: Field>(n: u64) -> F::Elem
 
 // The polynomial's value at x.
 pub(crate) fn evaluate<F: Field>(coefficients: &[u64], x: F::Elem) -> F::Elem
-    requires { AllByRecursion (λ a. a < F.codes.size) coefficients.now }
+    requires { IsTrue (all_codes F.codes.size coefficients.now) }
     ensures { F.code result ≡ value_at_lem F.codes coefficients.now (F.code x) }
 {
     let mut value = F::zero();
-    for i in (0..coefficients.len()).rev() {
-        value = F::add(element::<F>(coefficients[i]), F::mul(x, value));
+    for c in coefficients.iter().rev() {
+        value = F::add(element::<F>(*c), F::mul(x, value));
     }
     value
 }

@@ -1,7 +1,8 @@
-use Rattle.std.proofs.Common.{◌≡◌, drop}
-use Rattle.scheme.specs.Polynomial.{value_at_lem}
+use Rattle.std.proofs.Common.{◌≡◌, fold, map}
 use Rattle.scheme.proofs.polynomial.evaluate.Given as goal
 
--- the coefficients from i on are summed up
-abbrev pub invariant-loop-i : goal.invariant-loop-i
-invariant-loop-i g l = g.F.Field.code l.value ≡ value_at_lem g.F.Field.codes (drop l.i l.coefficients) (g.F.Field.code l.x)
+-- the coefficients so far are summed up
+abbrev pub invariant-loop-c : goal.invariant-loop-c
+invariant-loop-c g l =
+    let C = g.F.Field.codes in
+    g.F.Field.code l.value ≡ fold (λ value c. C.sum c (C.product (g.F.Field.code l.x) value)) 0 (map (λ c. c.now) l.yielded)
