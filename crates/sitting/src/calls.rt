@@ -1,7 +1,7 @@
 // The calls on a sitting.
 ghost use Rattle.runs.specs.Cards.{no_cards, presented, withdrawn};
 ghost use Rattle.sitting.specs.Faults.{present_number, present_told, withdraw_number, withdraw_told};
-ghost use Rattle.sitting.specs.Sitting.{cards_at};
+ghost use Rattle.sitting.specs.Sitting.{cards_on_table};
 ghost use Rattle.sitting.specs.Table.{blank_table, cleared, laid};
 ghost use Rattle.sitting.specs.declared.types.PresentFault.TheVariants.{Card};
 ghost use Rattle.std.specs.Prelude.{◌≡◌, is_ok, if◌then◌else◌};
@@ -48,7 +48,7 @@ impl<F: Doublable> Gathering<F> {
     // A sitting with no card lying.
     #[tactic(auto, using(crate::proofs::Lying::none_on_blank))]
     pub fn new(figures: Figures) -> Self
-        ensures cards { cards_at result.sitting ≡ no_cards F.Field.codes figures }
+        ensures cards { cards_on_table result.sitting ≡ no_cards F.Field.codes figures }
         ensures figures { result.sitting.figures ≡ figures }
         ensures table { result.sitting.table ≡ blank_table }
     {
@@ -63,7 +63,7 @@ impl<F: Doublable> Gathering<F> {
 
     // Lays participant i's card, and answers how many cards then lie.
     pub fn present(&mut self, i: u64, card: &[Pair]) -> Result<usize, PresentFault>
-        ensures answer { let before = self.old.sitting in (present_told result, cards_at self.new.sitting) ≡ presented F.Field.codes before.figures (cards_at before) i card.now }
+        ensures answer { let before = self.old.sitting in (present_told result, cards_on_table self.new.sitting) ≡ presented F.Field.codes before.figures (cards_on_table before) i card.now }
         ensures after { let before = self.old.sitting in self.new.sitting ≡ (if is_ok result then record before { table = laid before.table i card.now } else before) }
     {
         let sitting = &mut self.sitting;
@@ -78,7 +78,7 @@ impl<F: Doublable> Gathering<F> {
 
     // Takes up participant i's card, and answers how many cards then lie.
     pub fn withdraw(&mut self, i: u64) -> Result<usize, WithdrawFault>
-        ensures answer { let before = self.old.sitting in (withdraw_told result, cards_at self.new.sitting) ≡ withdrawn F.Field.codes before.figures (cards_at before) i }
+        ensures answer { let before = self.old.sitting in (withdraw_told result, cards_on_table self.new.sitting) ≡ withdrawn F.Field.codes before.figures (cards_on_table before) i }
         ensures after { let before = self.old.sitting in self.new.sitting ≡ (if is_ok result then record before { table = cleared before.table i } else before) }
     {
         let sitting = &mut self.sitting;

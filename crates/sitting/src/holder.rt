@@ -10,8 +10,8 @@ impl Drop for KeyHolder<'_> {
     fn drop(self)
         ensures { self.exit.0.now ≡ replicate (length self.entry.key.now) 0 }
     {
-        self.key.fill(0);
-        let KeyHolder { key: _ } = self;
+        let KeyHolder { key } = self;
+        key.fill(0);
     }
 }
 
