@@ -10,50 +10,36 @@ ghost use Rattle.runs.specs.Openings.{DealtCardsOpen, FittingSettles};
 // The law over runs: whatever t participants do together, all but at most w·q^(d − 1) of the q^d choices of tag polynomials that they
 // cannot tell apart let every opening that passes its first three questions name exactly the altered cards, and give the key where k
 // unaltered cards lie. Here w counts the accepted presents of altered cards in the script.
-pub fn law_over_runs() -> u8
+pub fn law_over_runs()
     ensures { LawOverRuns }
-{
-    0
-}
+{}
 
 // The law speaks of something: a deal, a group and a script as it asks for exist, with an opening while an altered card lies.
-pub fn law_applies() -> u8
+pub fn law_applies()
     ensures { LawApplies }
-{
-    0
-}
+{}
 
 // Which cards lie depends only on the accepted calls.
-pub fn lying_by_accepted_calls() -> u8
+pub fn lying_by_accepted_calls()
     ensures { LyingByAcceptedCalls }
-{
-    0
-}
+{}
 
 // An accepted present makes exactly that card lie until the next accepted withdraw of its number.
-pub fn lying_until_withdrawn() -> u8
+pub fn lying_until_withdrawn()
     ensures { LyingUntilWithdrawn }
-{
-    0
-}
+{}
 
 // At most one card of a number lies.
-pub fn one_card_each() -> u8
+pub fn one_card_each()
     ensures { OneCardEach }
-{
-    0
-}
+{}
 
 // Past its first three questions open refuses with 34 exactly where no polynomial fits at some place, and never with 35.
-pub fn fitting_settles() -> u8
+pub fn fitting_settles()
     ensures { FittingSettles }
-{
-    0
-}
+{}
 
 // Any k or more cards as dealt, lying alone, open to the key with no name.
-pub fn dealt_cards_open() -> u8
+pub fn dealt_cards_open()
     ensures { DealtCardsOpen }
-{
-    0
-}
+{}

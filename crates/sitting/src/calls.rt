@@ -1,13 +1,13 @@
 // The calls on a sitting.
 ghost use Rattle.runs.specs.Cards.{no_cards, presented, withdrawn};
 ghost use Rattle.sitting.specs.Faults.{present_number, present_told, withdraw_number, withdraw_told};
-ghost use Rattle.sitting.specs.Sitting.{gathered, sealed, with_table};
+ghost use Rattle.sitting.specs.Sitting.{cards_on_table};
 ghost use Rattle.sitting.specs.Table.{blank_table, cleared, laid};
 ghost use Rattle.sitting.specs.declared.types.PresentFault.TheVariants.{Card};
 ghost use Rattle.std.specs.Prelude.{◌≡◌, is_ok, if◌then◌else◌};
 
 use crate::card::ask_card;
-use crate::types::{CardFault, Gathering, PresentFault, Sealed, Table, WithdrawFault};
+use crate::types::{CardFault, Gathering, PresentFault, Sealed, Sitting, Table, WithdrawFault};
 use fields::Doublable;
 use scheme::{Figures, Pair};
 use std::marker::PhantomData;
@@ -46,63 +46,59 @@ impl WithdrawFault {
 
 impl<F: Doublable> Gathering<F> {
     // A sitting with no card lying.
+    #[tactic(auto, using(crate::proofs::Lying::none_on_blank))]
     pub fn new(figures: Figures) -> Self
-        ensures cards { gathered result ≡ no_cards F.Field.codes figures }
-        ensures figures { result.figures ≡ figures }
-        ensures table { result.table ≡ blank_table }
+        ensures cards { cards_on_table result.sitting ≡ no_cards F.Field.codes figures }
+        ensures figures { result.sitting.figures ≡ figures }
+        ensures table { result.sitting.table ≡ blank_table }
     {
         Self {
-            figures,
-            table: Table::new(),
-            field: PhantomData,
+            sitting: Sitting {
+                figures,
+                table: Table::new(),
+                field: PhantomData,
+            },
         }
     }
 
     // Lays participant i's card, and answers how many cards then lie.
     pub fn present(&mut self, i: u64, card: &[Pair]) -> Result<usize, PresentFault>
-        ensures answer { (present_told result, gathered self.new) ≡ presented F.Field.codes self.old.figures (gathered self.old) i card.now }
-        ensures after { self.new ≡ (if is_ok result then with_table self.old (laid self.old.table i card.now) else self.old) }
+        ensures answer { let before = self.old.sitting in (present_told result, cards_on_table self.new.sitting) ≡ presented F.Field.codes before.figures (cards_on_table before) i card.now }
+        ensures after { let before = self.old.sitting in self.new.sitting ≡ (if is_ok result then record before { table = laid before.table i card.now } else before) }
     {
-        ask_card::<F>(&self.figures, i, card)?;
+        let sitting = &mut self.sitting;
+        ask_card::<F>(&sitting.figures, i, card)?;
         let number = i as usize;
-        if self.table.lying[number - 1] {
+        if sitting.table.lying[number - 1] {
             return Err(PresentFault::AlreadyLies);
         }
-        self.table.lay(number, card);
-        Ok(self.table.lying_among(&self.figures))
+        sitting.table.lay(number, card);
+        Ok(sitting.table.lying_among(&sitting.figures))
     }
 
     // Takes up participant i's card, and answers how many cards then lie.
     pub fn withdraw(&mut self, i: u64) -> Result<usize, WithdrawFault>
-        ensures answer { (withdraw_told result, gathered self.new) ≡ withdrawn F.Field.codes self.old.figures (gathered self.old) i }
-        ensures after { self.new ≡ (if is_ok result then with_table self.old (cleared self.old.table i) else self.old) }
+        ensures answer { let before = self.old.sitting in (withdraw_told result, cards_on_table self.new.sitting) ≡ withdrawn F.Field.codes before.figures (cards_on_table before) i }
+        ensures after { let before = self.old.sitting in self.new.sitting ≡ (if is_ok result then record before { table = cleared before.table i } else before) }
     {
-        if i < 1 || i > self.figures.n() as u64 {
+        let sitting = &mut self.sitting;
+        if !sitting.figures.has_participant(i) {
             return Err(WithdrawFault::Number);
         }
         let number = i as usize;
-        if !self.table.lying[number - 1] {
+        if !sitting.table.lying[number - 1] {
             return Err(WithdrawFault::NotLying);
         }
-        self.table.clear(number);
-        Ok(self.table.lying_among(&self.figures))
+        sitting.table.clear(number);
+        Ok(sitting.table.lying_among(&sitting.figures))
     }
 
     // From now on no card is taken.
     pub fn seal(self) -> Sealed<F>
-        ensures cards { sealed result ≡ gathered self }
-        ensures figures { result.figures ≡ self.figures }
-        ensures table { result.table ≡ self.table }
+        ensures { result.sitting ≡ self.sitting }
     {
-        let Gathering {
-            figures,
-            table,
-            field,
-        } = self;
         Sealed {
-            figures,
-            table,
-            field,
+            sitting: self.sitting,
         }
     }
 }
@@ -110,19 +106,10 @@ impl<F: Doublable> Gathering<F> {
 impl<F: Doublable> Sealed<F> {
     // From now on cards are taken again.
     pub fn reopen(self) -> Gathering<F>
-        ensures cards { gathered result ≡ sealed self }
-        ensures figures { result.figures ≡ self.figures }
-        ensures table { result.table ≡ self.table }
+        ensures { result.sitting ≡ self.sitting }
     {
-        let Sealed {
-            figures,
-            table,
-            field,
-        } = self;
         Gathering {
-            figures,
-            table,
-            field,
+            sitting: self.sitting,
         }
     }
 }

@@ -1,7 +1,7 @@
 // The questions about a card that is said to be a participant's. Presenting a card puts them, and writing its text does.
 ghost use Rattle.runs.specs.Cards.{card_refusal, is_coded_lem};
-ghost use Rattle.scheme.specs.Questions.{every};
 ghost use Rattle.sitting.specs.Faults.{card_number, card_told};
+ghost use Rattle.std.specs.List.{list_all};
 ghost use Rattle.std.specs.Prelude.{◌≡◌, nat_lt};
 
 use crate::types::CardFault;
@@ -37,21 +37,17 @@ fn is_coded<F: Doublable>(pair: Pair) -> bool
 
 // Whether all values and tags are codes.
 fn are_coded<F: Doublable>(card: &[Pair]) -> bool
-    ensures { result ≡ every (is_coded_lem F.Field.codes) card.now }
+    ensures { result ≡ list_all (is_coded_lem F.Field.codes) card.now }
 {
-    for pair in card {
-        if !is_coded::<F>(*pair) {
-            return false;
-        }
-    }
-    true
+    card.iter().all(|pair| is_coded::<F>(*pair))
 }
 
 // Puts the questions about a card that is said to be participant i's.
+#[tactic(auto, using(crate::proofs::Asked::every_is_all))]
 pub fn ask_card<F: Doublable>(figures: &Figures, i: u64, card: &[Pair]) -> Result<(), CardFault>
     ensures { card_told result ≡ card_refusal F.Field.codes figures.now i card.now }
 {
-    if i < 1 || i > figures.n() as u64 {
+    if !figures.has_participant(i) {
         return Err(CardFault::Number);
     }
     if card.len() != figures.d() {

@@ -10,8 +10,8 @@ impl Drop for KeyHolder<'_> {
     fn drop(self)
         ensures { self.exit.0.now ≡ replicate (length self.entry.key.now) 0 }
     {
-        self.key.fill(0);
-        let KeyHolder { key: _ } = self;
+        let KeyHolder { key } = self;
+        key.fill(0);
     }
 }
 
@@ -24,10 +24,8 @@ pub fn confirm_key(opened: &mut [u64], expected: &[u64]) -> bool
     if held.key.len() != expected.len() {
         return false;
     }
-    for (i, symbol) in expected.iter().enumerate() {
-        if held.key[i] != *symbol {
-            return false;
-        }
-    }
-    true
+    held.key
+        .iter()
+        .zip(expected)
+        .all(|(symbol, other)| symbol == other)
 }

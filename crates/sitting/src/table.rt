@@ -1,32 +1,11 @@
 // Laying a card on the table and taking one up.
-ghost use Rattle.std.specs.Prelude.{◌≡◌, ◌<◌, ◌≤◌, length, take, replicate, count_by};
-ghost use Rattle.runs.specs.Cards.{blank};
+ghost use Rattle.std.specs.Prelude.{◌≡◌, ◌≤◌, length, take, count_by};
 ghost use Rattle.sitting.specs.Table.{blank_table, cleared, laid};
 
 use crate::types::Table;
 use scheme::{Figures, Pair};
 
 const BLANK: Pair = Pair { value: 0, tag: 0 };
-
-// How many flags are set.
-fn count(flags: &[bool]) -> usize
-    ensures { result ≡ count_by (λ b. b) flags.now }
-{
-    let mut set = 0;
-    for flag in flags {
-        if *flag {
-            set += 1;
-        }
-    }
-    set
-}
-
-// Makes places blank.
-fn wipe(places: &mut [Pair])
-    ensures { places.new ≡ replicate (length places.old) blank }
-{
-    places.fill(BLANK);
-}
 
 impl Table {
     // All places blank and no card lying.
@@ -45,8 +24,7 @@ impl Table {
         ensures { self.new ≡ laid self.old i card.now }
     {
         let start = (i - 1) * 64;
-        let part = &mut self.places[start..start + card.len()];
-        part.copy_from_slice(card);
+        self.places[start..start + card.len()].copy_from_slice(card);
         self.lying[i - 1] = true;
     }
 
@@ -56,7 +34,7 @@ impl Table {
         ensures { self.new ≡ cleared self.old i }
     {
         let start = (i - 1) * 64;
-        wipe(&mut self.places[start..start + 64]);
+        self.places[start..start + 64].fill(BLANK);
         self.lying[i - 1] = false;
     }
 
@@ -64,6 +42,7 @@ impl Table {
     pub(crate) fn lying_among(&self, figures: &Figures) -> usize
         ensures { result ≡ count_by (λ b. b) (take figures.now.n self.now.lying) }
     {
-        count(&self.lying[0..figures.n()])
+        let flags = &self.lying[..figures.n()];
+        flags.iter().filter(|lies| **lies).count()
     }
 }

@@ -1,8 +1,9 @@
-// The table with the two states of a sitting at it, and what the calls on cards answer when they refuse.
+// A sitting with its table, the two states that a sitting is in, and what the calls on cards answer when they refuse.
 use scheme::{Figures, Pair};
 use std::marker::PhantomData;
 
 // What lies on a table. Participant i has the 64 places from 64·(i − 1) on, of which a card of d pairs takes the first d.
+// Plain places made from one blank record, with flags beside them, are a promised form: no place tells whether a card lies.
 #[derive(Drop)]
 pub(crate) struct Table {
     pub(crate) places: [Pair; 2048],
@@ -10,24 +11,28 @@ pub(crate) struct Table {
     pub(crate) lying: [bool; 32],
 }
 
-// A sitting over the field F that takes cards.
+// A sitting over the field F: its figures and its table.
 #[derive(Drop)]
-pub struct Gathering<F> {
+pub(crate) struct Sitting<F> {
     pub(crate) figures: Figures,
     pub(crate) table: Table,
     pub(crate) field: PhantomData<F>,
+}
+
+// A sitting over the field F that takes cards.
+#[derive(Drop)]
+pub struct Gathering<F> {
+    pub(crate) sitting: Sitting<F>,
 }
 
 // A sitting over the field F that takes no card until it is reopened.
 #[derive(Drop)]
 pub struct Sealed<F> {
-    pub(crate) figures: Figures,
-    pub(crate) table: Table,
-    pub(crate) field: PhantomData<F>,
+    pub(crate) sitting: Sitting<F>,
 }
 
 // Which question about a card was answered with no.
-#[derive(Clone, Copy)]
+#[derive(Clone, Copy, Debug, PartialEq, Eq)]
 pub enum CardFault {
     // the number is not from 1 to n
     Number,
@@ -38,7 +43,7 @@ pub enum CardFault {
 }
 
 // Which question the call `present` answered with no.
-#[derive(Clone, Copy)]
+#[derive(Clone, Copy, Debug, PartialEq, Eq)]
 pub enum PresentFault {
     // one about the card
     Card(CardFault),
@@ -47,7 +52,7 @@ pub enum PresentFault {
 }
 
 // Which question the call `withdraw` answered with no.
-#[derive(Clone, Copy)]
+#[derive(Clone, Copy, Debug, PartialEq, Eq)]
 pub enum WithdrawFault {
     // the number is not from 1 to n
     Number,

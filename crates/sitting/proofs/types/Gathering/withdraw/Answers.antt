@@ -1,27 +1,18 @@
-use Rattle.std.proofs.Common.{◌≡◌, true, false, length, replicate, None, refl, ap, ◌∙◌, arith, rules}
-use Rattle.runs.specs.Cards.{blank}
-use Rattle.sitting.specs.Sitting.{with_table}
+use Rattle.std.proofs.Common.{◌≡◌, true, false, replicate, None, refl, ◌∙◌, arith, rules}
+use Rattle.runs.specs.Cards.{blank, is_participant}
 use Rattle.sitting.proofs.Settled.{withdrawn_by, settled_by}
 use Rattle.sitting.proofs.types.Gathering.withdraw.Goals as goal
 
-pub returns-then-not-self-number : goal.returns-then-not-self-number
-returns-then-not-self-number g c =
-    let s = c.args.self.now in
-    record {
-      answer = withdrawn_by g.F.Field.codes s.figures s.table c.args.i false c.if-not-self-number.true (omega arith) (omega arith);
-      after = refl {a = s};
-    }
+pub returns-then-not-sitting-number-clause-answer : goal.returns-then-not-sitting-number-clause-answer
+returns-then-not-sitting-number-clause-answer g c =
+    let s = c.args.self.now.sitting in
+    withdrawn_by g.F.Field.codes s.figures s.table c.args.i false c.if-not-sitting-number.true (search rules)
 
-pub returns : goal.returns
-returns g c =
+pub returns-clause-answer : goal.returns-clause-answer
+returns-clause-answer g c =
     let C = g.F.Field.codes in
-    let s = c.args.self.now in
-    let f = s.figures in
+    let s = c.args.self.now.sitting in
     let i = c.args.i in
-    let flags : length s.table.lying ≡ 32 = search rules in
-    let wide : length s.table.places ≡ 2048 = search rules in
-    record {
-      answer = settled_by C f s.table i c.clear.new.self (replicate 64 blank) false None c.lying_among.result c.clear.ensures (refl {a = None}) (omega arith) (omega arith) (omega arith) (omega arith) flags wide c.lying_among.ensures
-          ∙ withdrawn_by C f s.table i true c.if-not-self-number.false (omega arith) (omega arith);
-      after = ap (with_table s) c.clear.ensures;
-    }
+    let counts : true ≡ is_participant C s.figures i = search rules in
+    settled_by C s.figures s.table i _ (replicate 64 blank) false None _ c.clear.ensures (refl {a = None}) counts (omega arith) (omega arith) (search rules) (search rules) c.lying_among.ensures
+    ∙ withdrawn_by C s.figures s.table i true c.if-not-sitting-number.false counts
