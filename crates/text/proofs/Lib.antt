@@ -2,9 +2,7 @@ pub mod Refused
 pub mod Digits
 pub mod Pieces
 pub mod Pairing
-pub mod Spelling
-pub mod Overwriting
-pub mod Words
+pub mod Lengths
 pub mod Writable
 pub mod LinesBack
 pub mod NumbersBack
