@@ -70,13 +70,9 @@ fn source<F: Field>(t: usize, x: F::Elem) -> F::Elem {
 fn point<F: Field>(t: usize, i: u8, is_wrong: bool) -> Point<F::Elem> {
     let x = element::<F>(u64::from(i) * 100 + 7);
     let y = source::<F>(t, x);
-    if is_wrong {
-        Point {
-            x,
-            y: F::add(y, F::one()),
-        }
-    } else {
-        Point { x, y }
+    Point {
+        x,
+        y: if is_wrong { F::add(y, F::one()) } else { y },
     }
 }
 
