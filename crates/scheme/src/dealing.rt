@@ -9,6 +9,33 @@ use crate::polynomial::{element, evaluate};
 use crate::types::{DealFault, Figures, Pair};
 use fields::{Doublable, Doubled, Field, Twice};
 
+// What a dealing takes and makes.
+impl Figures {
+    // how many value coefficients a dealing takes: k - 1 for each symbol
+    pub fn value_coefficients(&self) -> usize
+        ensures value { result ≡ self.now.d * (self.now.k - 1) }
+        ensures bound { result ≤ 2048 }
+    {
+        self.d * (self.k - 1)
+    }
+
+    // how many tag coefficients a dealing takes: t + 1 for each symbol
+    pub fn tag_coefficients(&self) -> usize
+        ensures value { result ≡ self.now.d * (self.now.t + 1) }
+        ensures bound { result ≤ 1024 }
+    {
+        self.d * (self.t + 1)
+    }
+
+    // how many pairs a dealing makes: one for each participant and symbol
+    pub fn pairs(&self) -> usize
+        ensures value { result ≡ self.now.n * self.now.d }
+        ensures bound { result ≤ 2048 }
+    {
+        self.n * self.d
+    }
+}
+
 impl DealFault {
     // the number of the refusal
     pub fn number(&self) -> u32
@@ -121,10 +148,10 @@ fn ask<F: Doublable>(
     if key.len() != figures.d {
         return Err(DealFault::KeySymbols);
     }
-    if values.len() != figures.d * (figures.k - 1) || tags.len() != figures.d * (figures.t + 1) {
+    if values.len() != figures.value_coefficients() || tags.len() != figures.tag_coefficients() {
         return Err(DealFault::Coefficients);
     }
-    if room != figures.n * figures.d {
+    if room != figures.pairs() {
         return Err(DealFault::Buffer);
     }
     if !have_codes::<F>(key, values, tags) {
@@ -169,5 +196,5 @@ pub fn deal<F: Doublable>(
 {
     ask::<F>(figures, key, values, tags, shares.len())?;
     write_shares::<F>(figures, key, values, tags, shares);
-    Ok(figures.n * figures.d)
+    Ok(figures.pairs())
 }

@@ -1,6 +1,6 @@
 // The call `figures`, and what figures and their faults show.
 ghost use Rattle.scheme.specs.Figures.{figures_answer, figures_number, figures_told};
-ghost use Rattle.std.specs.Prelude.{◌≡◌};
+ghost use Rattle.std.specs.Prelude.{◌≡◌, ◌&&◌, nat_le};
 
 use crate::types::{Figures, FiguresFault};
 
@@ -8,16 +8,16 @@ use crate::types::{Figures, FiguresFault};
 pub fn figures(n: u64, k: u64, t: u64, d: u64) -> Result<Figures, FiguresFault>
     ensures { figures_told result ≡ figures_answer n k t d }
 {
-    if n < 1 || n > 32 {
+    if !(1..=32).contains(&n) {
         return Err(FiguresFault::Participants);
     }
-    if k < 1 || k > n {
+    if !(1..=n).contains(&k) {
         return Err(FiguresFault::Threshold);
     }
     if t > (k - 1) / 3 {
         return Err(FiguresFault::Altered);
     }
-    if d < 1 || d > 64 {
+    if !(1..=64).contains(&d) {
         return Err(FiguresFault::KeyLength);
     }
     Ok(Figures {
@@ -55,6 +55,13 @@ impl Figures {
         ensures { result ≡ self.now.d }
     {
         self.d
+    }
+
+    // whether i counts one of the participants, who are counted from 1
+    pub fn has_participant(&self, i: u64) -> bool
+        ensures { result ≡ (nat_le 1 i && nat_le i self.now.n) }
+    {
+        (1..=self.n as u64).contains(&i)
     }
 }
 

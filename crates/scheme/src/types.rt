@@ -3,7 +3,7 @@ ghost use Rattle.std.specs.Prelude.{◌+◌, ◌*◌, ◌≤◌};
 
 // Figures that passed their questions. The four facts stand in the type, so that no value can lose them; only the call
 // `figures` makes one.
-#[derive(Clone, Copy)]
+#[derive(Clone, Copy, PartialEq, Eq, Debug)]
 pub struct Figures {
     pub(crate) n: usize,
     pub(crate) k: usize,
@@ -16,7 +16,7 @@ pub struct Figures {
 }
 
 // Which question the call `figures` answered with no.
-#[derive(Clone, Copy)]
+#[derive(Clone, Copy, PartialEq, Eq, Debug)]
 pub enum FiguresFault {
     // n is not from 1 to 32
     Participants,
@@ -29,14 +29,14 @@ pub enum FiguresFault {
 }
 
 // A value and its tag, as codes: what a participant holds for one symbol of the key.
-#[derive(Clone, Copy, PartialEq, Eq, Debug)]
+#[derive(Clone, Copy, PartialEq, Eq, Debug, Default)]
 pub struct Pair {
     pub value: u64,
     pub tag: u64,
 }
 
 // Which question the call `deal` answered with no.
-#[derive(Clone, Copy)]
+#[derive(Clone, Copy, PartialEq, Eq, Debug)]
 pub enum DealFault {
     // there are not d key symbols
     KeySymbols,
@@ -58,7 +58,7 @@ pub struct Point<E> {
 }
 
 // Why points are refused.
-#[derive(Clone, Copy)]
+#[derive(Clone, Copy, PartialEq, Eq, Debug)]
 pub enum PointsFault {
     // there are too few, or more than 32
     Count,
