@@ -22,7 +22,7 @@ fn main(rt: HostRuntime) -> io::Result<()> {
 fn deal_and_print(rt: &HostRuntime, passed: &Figures) -> io::Result<()> {
     let (n, k, t, d) = (passed.n(), passed.k(), passed.t(), passed.d());
     println!(rt; "field=p251 n={n} k={k} t={t} d={d}")?;
-    let mut cards = [Pair { value: 0, tag: 0 }; 5];
+    let mut cards = [Pair::default(); 5];
     match deal::<P251>(passed, &KEY, &VALUES, &TAGS, &mut cards) {
         Ok(_) => print_cards(rt, &cards),
         Err(fault) => println!(rt; "refused={}", fault.number()),

@@ -191,7 +191,7 @@ fn dealt_over_byte(rt: &HostRuntime) -> io::Result<()> {
     let Ok(f) = figures(7, 5, 1, 2) else {
         return println!(rt; "no figures");
     };
-    let mut shares = [Pair { value: 0, tag: 0 }; 14];
+    let mut shares = [Pair::default(); 14];
     let key = [0x2a, 0xff];
     let values = [1, 2, 3, 4, 0x80, 0, 0x1b, 0xfe];
     let tags = [0x1234, 0xabcd, 0xffff, 0x0100];
