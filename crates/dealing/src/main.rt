@@ -15,34 +15,22 @@ const TAGS: [u64; 2] = [5, 3];
 fn main(rt: HostRuntime) -> io::Result<()> {
     match figures(5, 4, 1, 1) {
         Ok(passed) => deal_and_print(&rt, &passed),
-        Err(fault) => {
-            let number = fault.number();
-            println!(rt; "refused={number}")
-        }
+        Err(fault) => println!(rt; "refused={}", fault.number()),
     }
 }
 
 fn deal_and_print(rt: &HostRuntime, passed: &Figures) -> io::Result<()> {
-    let n = passed.n();
-    let k = passed.k();
-    let t = passed.t();
-    let d = passed.d();
+    let (n, k, t, d) = (passed.n(), passed.k(), passed.t(), passed.d());
     println!(rt; "field=p251 n={n} k={k} t={t} d={d}")?;
-    let mut cards = [Pair { value: 0, tag: 0 }; 5];
+    let mut cards = [Pair::default(); 5];
     match deal::<P251>(passed, &KEY, &VALUES, &TAGS, &mut cards) {
         Ok(_) => print_cards(rt, &cards),
-        Err(fault) => {
-            let number = fault.number();
-            println!(rt; "refused={number}")
-        }
+        Err(fault) => println!(rt; "refused={}", fault.number()),
     }
 }
 
 fn print_cards(rt: &HostRuntime, cards: &[Pair]) -> io::Result<()> {
-    for (i, pair) in cards.iter().enumerate() {
-        let number = i + 1;
-        let value = pair.value;
-        let tag = pair.tag;
+    for (number, Pair { value, tag }) in (1..).zip(cards) {
         println!(rt; "card={number} value={value} tag={tag}")?;
     }
     Ok(())

@@ -12,29 +12,24 @@ const LIMIT: u64 = 16385;
 fn main(rt: HostRuntime) -> io::Result<()> {
     let mut sheet_text = Vec::new(rt.alloc());
     rt.stdin().take(LIMIT).read_to_end(&mut sheet_text)?;
-    let mut cards = [Pair { value: 0, tag: 0 }; 2048];
-    match deal_text(sheet_text.as_slice(), &mut cards) {
+    let mut cards = [Pair::default(); 2048];
+    match deal_text(&sheet_text, &mut cards) {
         Ok(sheet) => print_cards(&rt, &sheet, &cards),
-        Err(fault) => {
-            let number = fault.number();
-            let line = fault.line();
-            println!(rt; "fault={number},{line}")
-        }
+        Err(fault) => println!(rt; "fault={},{}", fault.number(), fault.line()),
     }
 }
 
 // Deals what the text tells into the front of the cards.
 fn deal_text(sheet_text: &[u8], cards: &mut [Pair; 2048]) -> Result<Sheet, SheetFault> {
     let sheet = read_sheet(sheet_text)?;
-    let count = sheet.pairs();
-    sheet.deal(&mut cards[0..count])?;
+    sheet.deal(&mut cards[..sheet.pairs()])?;
     Ok(sheet)
 }
 
 fn print_cards(rt: &HostRuntime, sheet: &Sheet, cards: &[Pair]) -> io::Result<()> {
     let figures = sheet.figures();
-    for (i, card) in cards.chunks(figures.d()).take(figures.n()).enumerate() {
-        print_card(rt, sheet, i as u64 + 1, card)?;
+    for (number, card) in (1..).zip(cards.chunks(figures.d()).take(figures.n())) {
+        print_card(rt, sheet, number, card)?;
     }
     Ok(())
 }
@@ -42,10 +37,7 @@ fn print_cards(rt: &HostRuntime, sheet: &Sheet, cards: &[Pair]) -> io::Result<()
 fn print_card(rt: &HostRuntime, sheet: &Sheet, number: u64, card: &[Pair]) -> io::Result<()> {
     let mut buffer = [0u8; 1024];
     match write_card(sheet.field(), &sheet.figures(), number, card, &mut buffer) {
-        Ok(len) => rt.stdout().write_all(&buffer[0..len]),
-        Err(fault) => {
-            let refusal = fault.number();
-            println!(rt; "fault={refusal},0")
-        }
+        Ok(len) => rt.stdout().write_all(&buffer[..len]),
+        Err(fault) => println!(rt; "fault={},0", fault.number()),
     }
 }

@@ -7,6 +7,24 @@ use scheme::{Point, PointsFault, Polynomial, decode, interpolate, interpolate_at
 use std::alloc::{AllocError, Global};
 use std::io;
 
+// How many points there are, how many wrong ones are borne, and how many are wrong.
+const CASES: [(u8, usize, u8); 14] = [
+    (1, 0, 0),
+    (32, 0, 0),
+    (32, 0, 1),
+    (4, 1, 0),
+    (4, 1, 1),
+    (4, 1, 2),
+    (31, 10, 0),
+    (31, 10, 10),
+    (31, 10, 11),
+    (32, 10, 0),
+    (32, 10, 10),
+    (32, 10, 11),
+    (33, 10, 0),
+    (30, 10, 0),
+];
+
 fn main(rt: HostRuntime) -> io::Result<()> {
     table::<Doubled<P251>>(&rt, "doubled p251")?;
     table::<Doubled<Byte>>(&rt, "doubled byte")
@@ -14,177 +32,144 @@ fn main(rt: HostRuntime) -> io::Result<()> {
 
 fn table<F: Field>(rt: &HostRuntime, name: &str) -> io::Result<()> {
     println!(rt; "{name}")?;
-    show::<F>(rt, 1, 0, 0)?;
-    show::<F>(rt, 32, 0, 0)?;
-    show::<F>(rt, 32, 0, 1)?;
-    show::<F>(rt, 4, 1, 0)?;
-    show::<F>(rt, 4, 1, 1)?;
-    show::<F>(rt, 4, 1, 2)?;
-    show::<F>(rt, 31, 10, 0)?;
-    show::<F>(rt, 31, 10, 10)?;
-    show::<F>(rt, 31, 10, 11)?;
-    show::<F>(rt, 32, 10, 0)?;
-    show::<F>(rt, 32, 10, 10)?;
-    show::<F>(rt, 32, 10, 11)?;
-    show::<F>(rt, 33, 10, 0)?;
-    show::<F>(rt, 30, 10, 0)?;
-    show_run::<F>(rt, 0)?;
-    show_run::<F>(rt, 11)?;
-    show_run::<F>(rt, 22)?;
-    show_run::<F>(rt, 27)?;
+    for (count, t, errors) in CASES {
+        show::<F>(rt, count, t, errors)?;
+    }
+    for first in [0, 11, 22, 27] {
+        show_run::<F>(rt, first)?;
+    }
     show_other::<F>(rt)?;
     show_repeated::<F>(rt)?;
-    show_interpolation::<F>(rt, 0)?;
-    show_interpolation::<F>(rt, 1)?;
-    show_interpolation::<F>(rt, 4)?;
-    show_interpolation::<F>(rt, 32)?;
-    show_interpolation::<F>(rt, 33)
-}
-
-// The code of the i-th of some numbers that look like chance, below the field's size.
-fn mixed<F: Field>(i: u64) -> u64 {
-    let x = (i % 1000 + 1) * 2654435761;
-    (x ^ (x >> 13)) % F::size().max(1)
-}
-
-fn element<F: Field>(code: u64) -> F::Elem {
-    match F::from_code(code) {
-        Some(x) => x,
-        None => F::zero(),
+    for count in [0, 1, 4, 32, 33] {
+        show_interpolation::<F>(rt, count)?;
     }
+    Ok(())
+}
+
+// ---- the points
+
+// The element whose code is the remainder of n by the field's size.
+fn element<F: Field>(n: u64) -> F::Elem {
+    F::from_code(n % F::size()).unwrap()
+}
+
+// The i-th of some elements that look like chance.
+fn mixed<F: Field>(i: u64) -> F::Elem {
+    let n = (i % 1000 + 1) * 2654435761;
+    element::<F>(n ^ (n >> 13))
 }
 
 // The value at x of the polynomial of t + 1 coefficients that the points are made from.
 fn source<F: Field>(t: usize, x: F::Elem) -> F::Elem {
-    let mut y = F::zero();
-    for i in 0..t {
-        y = F::add(element::<F>(mixed::<F>(i as u64)), F::mul(x, y));
-    }
-    F::add(element::<F>(mixed::<F>(999)), F::mul(x, y))
+    (0..t as u64)
+        .chain([999])
+        .fold(F::zero(), |y, i| F::add(mixed::<F>(i), F::mul(x, y)))
 }
 
 // The i-th of the points; where it is wrong, its ordinate is one more.
-fn point<F: Field>(t: usize, i: u8, wrong: bool) -> Point<F::Elem> {
+fn point<F: Field>(t: usize, i: u8, is_wrong: bool) -> Point<F::Elem> {
     let x = element::<F>(u64::from(i) * 100 + 7);
     let y = source::<F>(t, x);
-    if wrong {
-        Point {
-            x,
-            y: F::add(y, F::one()),
-        }
-    } else {
-        Point { x, y }
+    Point {
+        x,
+        y: if is_wrong { F::add(y, F::one()) } else { y },
     }
 }
 
-// The points, of which `errors` are wrong, spread over them.
-fn points<F: Field>(
+// The first `count` points, with those wrong whose numbers `is_wrong` picks.
+fn points<F: Field, W: Fn(u8) -> bool>(
     heap: Global,
     t: usize,
     count: u8,
-    errors: u8,
-) -> Result<Vec<Point<F::Elem>>, AllocError> {
-    let mut list = Vec::new(heap);
-    for i in 0..count {
-        let wrong = (u64::from(i) * 7 + 3) % u64::from(count) < u64::from(errors);
-        list.push(point::<F>(t, i, wrong))?;
-    }
-    Ok(list)
+    is_wrong: W,
+) -> Result<Vec<Point<F::Elem>>, AllocError>
+    requires { (state : W) (i : _) → W.pre state i }
+{
+    (0..count)
+        .map(|i| point::<F>(t, i, is_wrong(i)))
+        .collect(heap)
+}
+
+// ---- what came
+
+// Whether y is the source's value at x.
+fn is_value<F: Field>(t: usize, x: F::Elem, y: F::Elem) -> bool {
+    F::to_code(y) == F::to_code(source::<F>(t, x))
 }
 
 // Whether f has the values of the source at forty further abscissae, which tells apart any two of the polynomials here.
 fn is_source<F: Field>(f: &Polynomial<F::Elem>, t: usize) -> bool {
-    for i in 0..40u64 {
+    (0..40).all(|i| {
         let x = element::<F>(i * 100 + 8);
-        if F::to_code(value_at::<F>(f, x)) != F::to_code(source::<F>(t, x)) {
-            return false;
-        }
-    }
-    true
+        is_value::<F>(t, x, value_at::<F>(f, x))
+    })
 }
 
-fn told<F: Field>(
-    answer: &Result<Option<Polynomial<F::Elem>>, PointsFault>,
-    t: usize,
-) -> &'static str {
+// Whether interpolation through the points has the source's value at a further abscissa.
+fn has_value<F: Field>(points: &[Point<F::Elem>], t: usize) -> bool {
+    let x = element::<F>(8);
+    interpolate_at::<F>(points, x).is_ok_and(|y| is_value::<F>(t, x, y))
+}
+
+// The words for an answer: whether the polynomial that came is the source, or that none came, or why the points are refused.
+fn told(answer: Result<Option<bool>, PointsFault>) -> &'static str {
     match answer {
-        Ok(Some(f)) => {
-            if is_source::<F>(f, t) {
-                "the source"
-            } else {
-                "another polynomial"
-            }
-        }
+        Ok(Some(true)) => "the source",
+        Ok(Some(false)) => "another polynomial",
         Ok(None) => "none",
         Err(PointsFault::Count) => "refused: count",
         Err(PointsFault::Repeated) => "refused: repeated",
     }
 }
 
+// The words for what decoding the points gives.
+fn decoded<F: Field>(points: &[Point<F::Elem>], t: usize) -> &'static str {
+    told(decode::<F>(points, t).map(|found| found.map(|f| is_source::<F>(&f, t))))
+}
+
+// ---- the lines of the table
+
+// Points with `errors` wrong ones spread over them.
 fn show<F: Field>(rt: &HostRuntime, count: u8, t: usize, errors: u8) -> io::Result<()> {
-    let list = points::<F>(rt.alloc(), t, count, errors)?;
-    let answer = decode::<F>(&list, t);
-    let text = told::<F>(&answer, t);
+    let list = points::<F, _>(rt.alloc(), t, count, |i| {
+        (u16::from(i) * 7 + 3) % u16::from(count.max(1)) < u16::from(errors)
+    })?;
+    let text = decoded::<F>(&list, t);
     println!(rt; "points={count} t={t} errors={errors}: {text}")
 }
 
 // Ten errors one after another among 32 points; after the last point they go on at the first.
 fn show_run<F: Field>(rt: &HostRuntime, first: u8) -> io::Result<()> {
-    let mut list = Vec::new(rt.alloc());
-    for i in 0..32u8 {
-        let wrong = (u64::from(i) + 32 - u64::from(first % 32)) % 32 < 10;
-        list.push(point::<F>(10, i, wrong))?;
-    }
-    let answer = decode::<F>(&list, 10);
-    let text = told::<F>(&answer, 10);
+    let list = points::<F, _>(rt.alloc(), 10, 32, |i| i.wrapping_sub(first) % 32 < 10)?;
+    let text = decoded::<F>(&list, 10);
     println!(rt; "points=32 t=10 errors=10 from={first}: {text}")
 }
 
 // Two errors among four points that lie on one line with a right point: that line passes through three of the four.
 fn show_other<F: Field>(rt: &HostRuntime) -> io::Result<()> {
-    let mut list = points::<F>(rt.alloc(), 1, 2, 0)?;
-    let one = point::<F>(1, 1, false);
-    for i in 2..4u8 {
-        let p = point::<F>(1, i, false);
-        let y = F::add(p.y, F::add(p.x, F::neg(one.x)));
-        list.push(Point { x: p.x, y })?;
+    let mut list = points::<F, _>(rt.alloc(), 1, 4, |_| false)?;
+    let from = F::neg(point::<F>(1, 1, false).x);
+    for p in list.iter_mut().skip(2) {
+        p.y = F::add(p.y, F::add(p.x, from));
     }
-    let answer = decode::<F>(&list, 1);
-    let text = told::<F>(&answer, 1);
+    let text = decoded::<F>(&list, 1);
     println!(rt; "points=4 t=1 errors=2 on a line: {text}")
 }
 
+// Four points, and the third of them again.
 fn show_repeated<F: Field>(rt: &HostRuntime) -> io::Result<()> {
-    let mut list = points::<F>(rt.alloc(), 1, 4, 0)?;
+    let mut list = points::<F, _>(rt.alloc(), 1, 4, |_| false)?;
     list.push(point::<F>(1, 2, false))?;
-    let answer = decode::<F>(&list, 1);
-    let text = told::<F>(&answer, 1);
+    let text = decoded::<F>(&list, 1);
     println!(rt; "points=5 t=1 one twice: {text}")
-}
-
-// Whether interpolation through the points has the source's value at a further abscissa.
-fn has_value<F: Field>(list: &[Point<F::Elem>], t: usize) -> bool {
-    let x = element::<F>(8);
-    match interpolate_at::<F>(list, x) {
-        Ok(y) => F::to_code(y) == F::to_code(source::<F>(t, x)),
-        Err(_) => false,
-    }
 }
 
 // Interpolation through `count` points of a polynomial with as many coefficients.
 fn show_interpolation<F: Field>(rt: &HostRuntime, count: u8) -> io::Result<()> {
     let t = usize::from(count).saturating_sub(1);
-    let list = points::<F>(rt.alloc(), t, count, 0)?;
-    let text = match &interpolate::<F>(&list) {
-        Ok(f) => {
-            if is_source::<F>(f, t) && has_value::<F>(&list, t) {
-                "the source"
-            } else {
-                "another polynomial"
-            }
-        }
-        Err(PointsFault::Count) => "refused: count",
-        Err(PointsFault::Repeated) => "refused: repeated",
-    };
+    let list = points::<F, _>(rt.alloc(), t, count, |_| false)?;
+    let text = told(interpolate::<F>(&list).map(|f| Some(
+        is_source::<F>(&f, t) && has_value::<F>(&list, t),
+    )));
     println!(rt; "points={count} interpolated: {text}")
 }

@@ -4,9 +4,8 @@
 
 use fields::{Byte, Doubled, Field, P251};
 use scheme::{Point, decode};
-use std::alloc::{AllocError, Global};
 use std::time::Instant;
-use std::{env, io};
+use std::{array, env, io};
 
 fn main(rt: HostRuntime) -> io::Result<()> {
     let timed = env::args(&rt)?.count() > 1;
@@ -16,12 +15,7 @@ fn main(rt: HostRuntime) -> io::Result<()> {
 
 fn measure<F: Field>(rt: &HostRuntime, name: &str, timed: bool) -> io::Result<()> {
     let start = Instant::now(rt)?;
-    let mut decoded = 0u32;
-    for place in 0..64u64 {
-        if decodes::<F>(rt.alloc(), place)? {
-            decoded = decoded.saturating_add(1);
-        }
-    }
+    let decoded = (0..64).filter(|place| is_decoded::<F>(*place)).count();
     let micros = start.elapsed(rt)?.as_micros();
     println!(rt; "{name} decoded={decoded}")?;
     if timed {
@@ -30,35 +24,32 @@ fn measure<F: Field>(rt: &HostRuntime, name: &str, timed: bool) -> io::Result<()
     Ok(())
 }
 
-fn element<F: Field>(code: u64) -> F::Elem {
-    match F::from_code(code % F::size().max(1)) {
-        Some(x) => x,
-        None => F::zero(),
-    }
+// The element whose code is the remainder of n by the field's size.
+fn element<F: Field>(n: u64) -> F::Elem {
+    F::from_code(n % F::size()).unwrap()
 }
 
 // The value at x of a polynomial of eleven coefficients that depends on the place.
 fn source<F: Field>(place: u64, x: F::Elem) -> F::Elem {
-    let mut y = F::zero();
-    for i in 0..11u64 {
+    (0..11).fold(F::zero(), |y, i| {
         let c = element::<F>((place % 64 + 1) * 40503 + i * 7919);
-        y = F::add(c, F::mul(x, y));
-    }
-    y
+        F::add(c, F::mul(x, y))
+    })
 }
 
-fn decodes<F: Field>(heap: Global, place: u64) -> Result<bool, AllocError> {
-    let mut points = Vec::new(heap);
-    for i in 0..32u64 {
-        let x = element::<F>(i * 300 + 11);
-        let mut y = source::<F>(place, x);
-        if i % 3 == 1 && i < 30 {
-            y = F::add(y, F::one());
-        }
-        points.push(Point { x, y })?;
+// The i-th of the points of a place; up to the thirtieth, the ordinate of every third is one more.
+fn point<F: Field>(place: u64, i: u8) -> Point<F::Elem> {
+    let x = element::<F>(u64::from(i) * 300 + 11);
+    let y = source::<F>(place, x);
+    let is_wrong = i % 3 == 1 && i < 30;
+    Point {
+        x,
+        y: if is_wrong { F::add(y, F::one()) } else { y },
     }
-    match decode::<F>(&points, 10) {
-        Ok(Some(_)) => Ok(true),
-        _ => Ok(false),
-    }
+}
+
+// Whether there is a polynomial that passes through all but ten of a place's points.
+fn is_decoded<F: Field>(place: u64) -> bool {
+    let points: [Point<F::Elem>; 32] = array::from_fn(|i| point::<F>(place, i as u8));
+    matches!(decode::<F>(&points, 10), Ok(Some(_)))
 }

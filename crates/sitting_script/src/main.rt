@@ -8,6 +8,13 @@ use scheme::{Figures, Pair, deal, figures};
 use sitting::{Gathering, KeyHolder, confirm_key};
 use std::io;
 
+// A call on a sitting: a participant's number, and for `present` a card and what is to be seen on it.
+#[derive(Clone, Copy)]
+enum Call<'a> {
+    Present(&'static str, u64, &'a [Pair]),
+    Withdraw(u64),
+}
+
 fn main(rt: HostRuntime) -> io::Result<()> {
     if let Ok(passed) = figures(5, 4, 1, 1) {
         over_p251(&rt, passed)?;
@@ -16,6 +23,27 @@ fn main(rt: HostRuntime) -> io::Result<()> {
         over_byte(&rt, passed)?;
     }
     keys(&rt)
+}
+
+// Makes the calls of a script, and prints each with its answer.
+fn play<F: Doublable>(
+    rt: &HostRuntime,
+    sitting: &mut Gathering<F>,
+    script: &[Call],
+) -> io::Result<()> {
+    for call in script {
+        match *call {
+            Call::Present(what, i, card) => match sitting.present(i, card) {
+                Ok(lying) => println!(rt; "present {i} ({what}): lying={lying}")?,
+                Err(fault) => println!(rt; "present {i} ({what}): refused={}", fault.number())?,
+            },
+            Call::Withdraw(i) => match sitting.withdraw(i) {
+                Ok(lying) => println!(rt; "withdraw {i}: lying={lying}")?,
+                Err(fault) => println!(rt; "withdraw {i}: refused={}", fault.number())?,
+            },
+        }
+    }
+    Ok(())
 }
 
 fn pair(value: u64, tag: u64) -> Pair {
@@ -28,8 +56,8 @@ fn over_p251(rt: &HostRuntime, passed: Figures) -> io::Result<()> {
     let _ = deal::<P251>(&passed, &[7], &[1, 0, 2], &[5, 3], &mut cards);
     println!(rt; "p251 n=5 k=4 t=1 d=1")?;
     let mut sitting = Gathering::<P251>::new(passed);
-    for (i, card) in cards.iter().enumerate() {
-        present(rt, &mut sitting, "as dealt", i as u64 + 1, &[*card])?;
+    for (i, card) in (1..).zip(&cards) {
+        play(rt, &mut sitting, &[Call::Present("as dealt", i, &[*card])])?;
     }
     refusals(rt, &mut sitting)?;
     withdrawals(rt, &mut sitting)?;
@@ -37,93 +65,73 @@ fn over_p251(rt: &HostRuntime, passed: Figures) -> io::Result<()> {
     let sealed = sitting.seal();
     println!(rt; "reopen")?;
     let mut sitting = sealed.reopen();
-    present(rt, &mut sitting, "again", 2, &[pair(26, 1586)])?;
-    present(rt, &mut sitting, "still lying", 1, &[pair(10, 788)])
+    play(
+        rt,
+        &mut sitting,
+        &[
+            Call::Present("again", 2, &[pair(26, 1586)]),
+            Call::Present("still lying", 1, &[pair(10, 788)]),
+        ],
+    )
 }
 
 // Each question in its turn, and two questions at once.
 fn refusals(rt: &HostRuntime, sitting: &mut Gathering<P251>) -> io::Result<()> {
     let fit = pair(250, 63000);
-    present(rt, sitting, "too low a number", 0, &[fit])?;
-    present(rt, sitting, "too high a number", 6, &[fit])?;
-    present(rt, sitting, "the highest number", u64::MAX, &[])?;
-    present(rt, sitting, "a card of no pair", 2, &[])?;
-    present(rt, sitting, "a pair too many", 2, &[fit, pair(251, 0)])?;
-    present(rt, sitting, "value 251", 2, &[pair(251, 63000)])?;
-    present(rt, sitting, "tag 63001", 2, &[pair(250, 63001)])?;
-    present(
+    play(
         rt,
         sitting,
-        "value 250 and tag 63000, lying already",
-        2,
-        &[fit],
+        &[
+            Call::Present("too low a number", 0, &[fit]),
+            Call::Present("too high a number", 6, &[fit]),
+            Call::Present("the highest number", u64::MAX, &[]),
+            Call::Present("a card of no pair", 2, &[]),
+            Call::Present("a pair too many", 2, &[fit, pair(251, 0)]),
+            Call::Present("value 251", 2, &[pair(251, 63000)]),
+            Call::Present("tag 63001", 2, &[pair(250, 63001)]),
+            Call::Present("value 250 and tag 63000, lying already", 2, &[fit]),
+        ],
     )
 }
 
 fn withdrawals(rt: &HostRuntime, sitting: &mut Gathering<P251>) -> io::Result<()> {
-    withdraw(rt, sitting, 0)?;
-    withdraw(rt, sitting, 6)?;
-    withdraw(rt, sitting, 2)?;
-    withdraw(rt, sitting, 2)?;
-    withdraw(rt, sitting, 5)?;
-    present(
+    play(
         rt,
         sitting,
-        "value 250 and tag 63000",
-        5,
-        &[pair(250, 63000)],
-    )?;
-    withdraw(rt, sitting, 5)
+        &[
+            Call::Withdraw(0),
+            Call::Withdraw(6),
+            Call::Withdraw(2),
+            Call::Withdraw(2),
+            Call::Withdraw(5),
+            Call::Present("value 250 and tag 63000", 5, &[pair(250, 63000)]),
+            Call::Withdraw(5),
+        ],
+    )
 }
 
 // The largest figures, over byte.
 fn over_byte(rt: &HostRuntime, passed: Figures) -> io::Result<()> {
     println!(rt; "byte n=32 k=31 t=10 d=64")?;
     let mut sitting = Gathering::<Byte>::new(passed);
-    let last = 32;
-    present(
+    let highest = [pair(255, 65535); 64];
+    let mut value_256 = [pair(0, 0); 64];
+    value_256[63].value = 256;
+    let mut tag_65536 = [pair(0, 0); 64];
+    tag_65536[63].tag = 65536;
+    play(
         rt,
         &mut sitting,
-        "all 64 pairs the highest",
-        last,
-        &[pair(255, 65535); 64],
-    )?;
-    present(rt, &mut sitting, "63 pairs", 1, &[pair(255, 65535); 63])?;
-    let mut card = [pair(0, 0); 64];
-    card[63] = pair(256, 0);
-    present(rt, &mut sitting, "the last value 256", 1, &card)?;
-    card[63] = pair(0, 65536);
-    present(rt, &mut sitting, "the last tag 65536", 1, &card)?;
-    card[63] = pair(0, 0);
-    present(rt, &mut sitting, "all pairs 0", 1, &card)?;
-    withdraw(rt, &mut sitting, last)?;
-    withdraw(rt, &mut sitting, last)
-}
-
-fn present<F: Doublable>(
-    rt: &HostRuntime,
-    sitting: &mut Gathering<F>,
-    what: &str,
-    i: u64,
-    card: &[Pair],
-) -> io::Result<()> {
-    match sitting.present(i, card) {
-        Ok(lying) => println!(rt; "present {i} ({what}): lying={lying}"),
-        Err(fault) => {
-            let number = fault.number();
-            println!(rt; "present {i} ({what}): refused={number}")
-        }
-    }
-}
-
-fn withdraw<F: Doublable>(rt: &HostRuntime, sitting: &mut Gathering<F>, i: u64) -> io::Result<()> {
-    match sitting.withdraw(i) {
-        Ok(lying) => println!(rt; "withdraw {i}: lying={lying}"),
-        Err(fault) => {
-            let number = fault.number();
-            println!(rt; "withdraw {i}: refused={number}")
-        }
-    }
+        &[
+            Call::Present("all 64 pairs the highest", 32, &highest),
+            Call::Present("63 pairs", 1, &highest[..63]),
+            Call::Present("the last value 256", 1, &value_256),
+            Call::Present("the last tag 65536", 1, &tag_65536),
+            Call::Present("all pairs 0", 1, &[pair(0, 0); 64]),
+            Call::Withdraw(32),
+            Call::Withdraw(32),
+        ],
+    )
 }
 
 // Keys that are used and then are blank.
@@ -154,6 +162,6 @@ fn print_symbols(rt: &HostRuntime, symbols: &[u64]) -> io::Result<()> {
 
 fn confirm(rt: &HostRuntime, mut key: [u64; 2], expected: &[u64]) -> io::Result<()> {
     let same = confirm_key(&mut key, expected);
-    let (first, second) = (key[0], key[1]);
+    let [first, second] = key;
     println!(rt; "confirm: {same}, then {first},{second}")
 }

@@ -5,37 +5,135 @@ use fields::{Byte, Doubled, Field, P251};
 use scheme::{Pair, deal, figures};
 use std::io;
 
+// The numbers n, k, t and d that the call `figures` is asked about.
+const FIGURES: [[u64; 4]; 14] = [
+    [33, 1, 0, 1],
+    [0, 0, 0, 0],
+    [5, 0, 0, 1],
+    [5, 6, 0, 1],
+    [5, 3, 1, 1],
+    [5, 4, 1, 0],
+    [5, 4, 1, 65],
+    [5, 4, 1, 64],
+    [32, 31, 10, 64],
+    [32, 32, 11, 1],
+    [u64::MAX, u64::MAX, u64::MAX, u64::MAX],
+    [32, u64::MAX, u64::MAX, u64::MAX],
+    [32, 32, u64::MAX, u64::MAX],
+    [32, 32, 10, u64::MAX],
+];
+
+// What the call `deal` is given over p251 with n = 5, k = 4, t = 1 and d = 1: three lists of codes, and how many pairs there is
+// room for.
+#[derive(Clone, Copy)]
+struct Case {
+    name: &'static str,
+    key: &'static [u64],
+    values: &'static [u64],
+    tags: &'static [u64],
+    room: usize,
+}
+
+// A case that is dealt; the others tell where they differ from it.
+const DEALT: Case = Case {
+    name: "highest tag coefficient 0",
+    key: &[7],
+    values: &[1, 0, 2],
+    tags: &[5, 0],
+    room: 5,
+};
+
+// Every refusal of the call, and dealings.
+const DEALINGS: [Case; 10] = [
+    Case {
+        name: "a key symbol too many",
+        key: &[7, 7],
+        ..DEALT
+    },
+    Case {
+        name: "a value coefficient too few",
+        values: &[1, 0],
+        ..DEALT
+    },
+    Case {
+        name: "a tag coefficient too few",
+        tags: &[5],
+        ..DEALT
+    },
+    Case {
+        name: "a pair too few",
+        room: 4,
+        ..DEALT
+    },
+    Case {
+        name: "key symbol 251",
+        key: &[251],
+        ..DEALT
+    },
+    Case {
+        name: "value coefficient 251",
+        values: &[251, 0, 2],
+        ..DEALT
+    },
+    Case {
+        name: "tag coefficient 63001",
+        tags: &[5, 63001],
+        ..DEALT
+    },
+    Case {
+        name: "highest value coefficient 0",
+        values: &[1, 2, 0],
+        ..DEALT
+    },
+    Case {
+        name: "largest codes",
+        key: &[250],
+        values: &[250, 250, 250],
+        tags: &[63000, 63000],
+        ..DEALT
+    },
+    DEALT,
+];
+
 fn main(rt: HostRuntime) -> io::Result<()> {
     products(&rt)?;
     inverses(&rt)?;
-    figures_cases(&rt)?;
-    dealing_cases(&rt)?;
+    for [n, k, t, d] in FIGURES {
+        show_figures(&rt, n, k, t, d)?;
+    }
+    for case in &DEALINGS {
+        show_dealing(&rt, case)?;
+    }
     dealt_over_byte(&rt)
 }
 
-// The products of FIPS 197, section 4.2, and products of y in the doubled fields.
+// The products of FIPS 197, section 4.2, and squares of -1 and of y.
 fn products(rt: &HostRuntime) -> io::Result<()> {
     for b in [0x83, 0x13, 0x02, 0x04, 0x08, 0x10] {
-        let c = product::<Byte>(0x57, b);
-        println!(rt; "byte 57*{b:02x}={c:02x}")?;
+        if let Some(c) = product::<Byte>(0x57, b) {
+            println!(rt; "byte 57*{b:02x}={c:02x}")?;
+        }
     }
-    let c = product::<P251>(250, 250);
-    println!(rt; "p251 250*250={c}")?;
-    let c = product::<Doubled<P251>>(251, 251);
-    println!(rt; "doubled p251 251*251={c}")?;
-    let c = product::<Doubled<Byte>>(256, 256);
-    println!(rt; "doubled byte 256*256={c}")
+    show_square::<P251>(rt, "p251", 250)?;
+    show_square::<Doubled<P251>>(rt, "doubled p251", 251)?;
+    show_square::<Doubled<Byte>>(rt, "doubled byte", 256)
 }
 
-// The code of a·b, or the field's size where a or b is no code.
-fn product<F: Field>(a: u64, b: u64) -> u64 {
-    match (F::from_code(a), F::from_code(b)) {
-        (Some(x), Some(y)) => F::to_code(F::mul(x, y)),
-        _ => F::size(),
+// The code of a·b, or nothing where a or b is no code.
+fn product<F: Field>(a: u64, b: u64) -> Option<u64> {
+    let x = F::from_code(a)?;
+    let y = F::from_code(b)?;
+    Some(F::to_code(F::mul(x, y)))
+}
+
+// The code of a·a.
+fn show_square<F: Field>(rt: &HostRuntime, name: &str, a: u64) -> io::Result<()> {
+    match product::<F>(a, a) {
+        Some(c) => println!(rt; "{name} {a}*{a}={c}"),
+        None => println!(rt; "{name} {a} is no code"),
     }
 }
 
-// How many elements times their inverses give one, and what the inverse of zero is.
 fn inverses(rt: &HostRuntime) -> io::Result<()> {
     show_inverses::<Byte>(rt, "byte")?;
     show_inverses::<P251>(rt, "p251")?;
@@ -43,14 +141,12 @@ fn inverses(rt: &HostRuntime) -> io::Result<()> {
     show_inverses::<Doubled<P251>>(rt, "doubled p251")
 }
 
+// How many elements times their inverses give one, and what the inverse of zero is.
 fn show_inverses<F: Field>(rt: &HostRuntime, name: &str) -> io::Result<()> {
     let size = F::size();
-    let mut ones = 0u64;
-    for n in 0..size {
-        if times_inverse::<F>(n) == 1 {
-            ones = ones.wrapping_add(1);
-        }
-    }
+    let ones = (0..size)
+        .filter(|n| times_inverse::<F>(*n) == Some(1))
+        .count();
     let zero = F::to_code(F::inv(F::zero()));
     let past = F::from_code(size).is_some();
     println!(rt;
@@ -58,108 +154,34 @@ fn show_inverses<F: Field>(rt: &HostRuntime, name: &str) -> io::Result<()> {
     )
 }
 
-fn times_inverse<F: Field>(n: u64) -> u64 {
-    match F::from_code(n) {
-        Some(x) => F::to_code(F::mul(x, F::inv(x))),
-        None => F::size(),
-    }
-}
-
-fn figures_cases(rt: &HostRuntime) -> io::Result<()> {
-    let most = u64::MAX;
-    show_figures(rt, 33, 1, 0, 1)?;
-    show_figures(rt, 0, 0, 0, 0)?;
-    show_figures(rt, 5, 0, 0, 1)?;
-    show_figures(rt, 5, 6, 0, 1)?;
-    show_figures(rt, 5, 3, 1, 1)?;
-    show_figures(rt, 5, 4, 1, 0)?;
-    show_figures(rt, 5, 4, 1, 65)?;
-    show_figures(rt, 5, 4, 1, 64)?;
-    show_figures(rt, 32, 31, 10, 64)?;
-    show_figures(rt, 32, 32, 11, 1)?;
-    show_figures(rt, most, most, most, most)?;
-    show_figures(rt, 32, most, most, most)?;
-    show_figures(rt, 32, 32, most, most)?;
-    show_figures(rt, 32, 32, 10, most)
+// The code of an element times its inverse, or nothing where n is no code.
+fn times_inverse<F: Field>(n: u64) -> Option<u64> {
+    let x = F::from_code(n)?;
+    Some(F::to_code(F::mul(x, F::inv(x))))
 }
 
 fn show_figures(rt: &HostRuntime, n: u64, k: u64, t: u64, d: u64) -> io::Result<()> {
     match figures(n, k, t, d) {
-        Ok(f) => {
-            let (n, k, t, d) = (f.n(), f.k(), f.t(), f.d());
-            println!(rt; "figures {n},{k},{t},{d} pass")
-        }
-        Err(fault) => {
-            let number = fault.number();
-            println!(rt; "figures {n},{k},{t},{d} refused={number}")
-        }
+        Ok(f) => println!(rt; "figures {},{},{},{} pass", f.n(), f.k(), f.t(), f.d()),
+        Err(fault) => println!(rt; "figures {n},{k},{t},{d} refused={}", fault.number()),
     }
 }
 
-// Every refusal of deal over p251 with n = 5, k = 4, t = 1, d = 1, and the dealing itself.
-fn dealing_cases(rt: &HostRuntime) -> io::Result<()> {
-    show_dealing(rt, "a key symbol too many", &[7, 7], &[1, 0, 2], &[5, 3], 5)?;
-    show_dealing(rt, "a value coefficient too few", &[7], &[1, 0], &[5, 3], 5)?;
-    show_dealing(rt, "a tag coefficient too few", &[7], &[1, 0, 2], &[5], 5)?;
-    show_dealing(rt, "a pair too few", &[7], &[1, 0, 2], &[5, 3], 4)?;
-    show_dealing(rt, "key symbol 251", &[251], &[1, 0, 2], &[5, 3], 5)?;
-    show_dealing(rt, "value coefficient 251", &[7], &[251, 0, 2], &[5, 3], 5)?;
-    show_dealing(
-        rt,
-        "tag coefficient 63001",
-        &[7],
-        &[1, 0, 2],
-        &[5, 63001],
-        5,
-    )?;
-    show_dealing(
-        rt,
-        "highest value coefficient 0",
-        &[7],
-        &[1, 2, 0],
-        &[5, 3],
-        5,
-    )?;
-    show_dealing(
-        rt,
-        "largest codes",
-        &[250],
-        &[250, 250, 250],
-        &[63000, 63000],
-        5,
-    )?;
-    show_dealing(
-        rt,
-        "highest tag coefficient 0",
-        &[7],
-        &[1, 0, 2],
-        &[5, 0],
-        5,
-    )
-}
-
-fn show_dealing(
-    rt: &HostRuntime,
-    name: &str,
-    key: &[u64],
-    values: &[u64],
-    tags: &[u64],
-    room: usize,
-) -> io::Result<()> {
+fn show_dealing(rt: &HostRuntime, case: &Case) -> io::Result<()> {
     let Ok(f) = figures(5, 4, 1, 1) else {
         return println!(rt; "no figures");
     };
     let was = Pair { value: 99, tag: 99 };
     let mut buffer = [was; 5];
-    if room > 5 {
+    let Some(shares) = buffer.get_mut(..case.room) else {
         return println!(rt; "no room");
-    }
-    match deal::<P251>(&f, key, values, tags, &mut buffer[0..room]) {
+    };
+    let name = case.name;
+    match deal::<P251>(&f, case.key, case.values, case.tags, shares) {
         Ok(count) => println!(rt; "{name}: dealt={count} {buffer:?}"),
         Err(fault) => {
-            let number = fault.number();
             let untouched = buffer == [was; 5];
-            println!(rt; "{name}: refused={number} untouched={untouched}")
+            println!(rt; "{name}: refused={} untouched={untouched}", fault.number())
         }
     }
 }
@@ -169,15 +191,12 @@ fn dealt_over_byte(rt: &HostRuntime) -> io::Result<()> {
     let Ok(f) = figures(7, 5, 1, 2) else {
         return println!(rt; "no figures");
     };
-    let mut shares = [Pair { value: 0, tag: 0 }; 14];
+    let mut shares = [Pair::default(); 14];
     let key = [0x2a, 0xff];
     let values = [1, 2, 3, 4, 0x80, 0, 0x1b, 0xfe];
     let tags = [0x1234, 0xabcd, 0xffff, 0x0100];
     match deal::<Byte>(&f, &key, &values, &tags, &mut shares) {
         Ok(count) => println!(rt; "byte dealt={count} {shares:?}"),
-        Err(fault) => {
-            let number = fault.number();
-            println!(rt; "byte refused={number}")
-        }
+        Err(fault) => println!(rt; "byte refused={}", fault.number()),
     }
 }
