@@ -1,4 +1,5 @@
 // The field `p251`: the whole numbers modulo 251.
+ghost use Rattle.std.specs.Prelude.{◌≡◌, ◌%◌};
 ghost use Rattle.fields.specs.P251.{p251 as p251Codes};
 ghost use Rattle.fields.specs.P251Laws.{p251_laws, p251_doublable};
 ghost use Rattle.fields.specs.SymbolCodes.{symbol_laws};
@@ -27,21 +28,15 @@ impl Field for P251 {
     }
 
     fn add(a: Symbol<251>, b: Symbol<251>) -> Symbol<251> {
-        let sum = (u16::from(a.code) + u16::from(b.code)) % 251;
-        Symbol { code: sum as u8 }
+        reduce(u16::from(a.code) + u16::from(b.code))
     }
 
     fn neg(a: Symbol<251>) -> Symbol<251> {
-        Symbol {
-            code: (251 - a.code) % 251,
-        }
+        reduce(251 - u16::from(a.code))
     }
 
     fn mul(a: Symbol<251>, b: Symbol<251>) -> Symbol<251> {
-        let product = u16::from(a.code) * u16::from(b.code) % 251;
-        Symbol {
-            code: product as u8,
-        }
+        reduce(u16::from(a.code) * u16::from(b.code))
     }
 
     fn inv(a: Symbol<251>) -> Symbol<251> {
@@ -56,6 +51,15 @@ impl Field for P251 {
 
     fn from_code(n: u64) -> Option<Symbol<251>> {
         Symbol::read(n)
+    }
+}
+
+// The element that n is modulo 251.
+fn reduce(n: u16) -> Symbol<251>
+    ensures { result.code ≡ n % 251 }
+{
+    Symbol {
+        code: (n % 251) as u8,
     }
 }
 

@@ -1,4 +1,5 @@
-// An element of a field of at most 256 elements, held as its code in one byte.
+// An element of a field of at most 256 elements, held as its code in one byte. `Byte` and `P251` are two such fields. What is alike in
+// them is one expression each, and a trait for such fields would repeat each member of `Field` for bytes.
 ghost use Rattle.std.specs.Prelude.{◌≡◌, ◌<◌, ◌≤◌, MatchOption};
 
 #[derive(Clone, Copy, Debug, PartialEq, Eq)]
