@@ -2,8 +2,8 @@
 -- the turn at the coefficient i to what holds after it; s is the list as it stands, s₀ the list as it stood before the loop.
 -- Assumes nothing.
 use Rattle.std.proofs.Common.{◌≡◌, ℕ, ◌+◌, ◌-◌, ◌<◌, ◌≤◌, max, List, [], ◌∷◌, ◌++◌, length, get_or, take, drop, set, sym, refl, ap, ◌∙◌, ap₂, append_assoc, arith, get_or-drop, get_or-take, drop-drop, drop-set-lt}
-use native.Mathlib.Nat.{max-eq_left, max-eq_right}
-use lib.Seq.{take-set-lt}
+use Rattle.std.proofs.Math.Nat.{max-eq_left, max-eq_right}
+use Rattle.std.proofs.Math.Seq.{take-set-lt}
 use Rattle.std.proofs.lemmas.List.{drop_more, drop_all, take_more, take_more_set, length-take-le}
 use Rattle.algebra.specs.Field.{Field}
 use Rattle.algebra.specs.Polynomial.{eval, plus, scale, lin, times_root}

@@ -2,7 +2,6 @@
 -- coefficients are equal, and through points with distinct abscissae pass the polynomials of `curve` and no other.
 -- Assumes nothing.
 use Rattle.std.proofs.Common.{◌≡◌, ℕ, suc, ◌+◌, ◌<◌, ◌≤◌, List, [], ◌∷◌, length, sym, refl, ap, ◌∙◌, ap₂, arith}
-use mathlib.Core.List.{head-eq_of_cons-eq, tail-eq_of_cons-eq, nil≢cons, cons≢nil}
 use Rattle.std.specs.List.{AllByRecursion}
 use Rattle.algebra.specs.Field.{Field}
 use Rattle.algebra.specs.Polynomial.{Apart, eval, plus, scale, times, lin, times_root, quotient, curve, interpolated, Through}
@@ -112,22 +111,22 @@ module _ {K : Type 0} (F : Field K) where
 
   -- b + (X - a)·f determines b and f
   pub lin_inj : (a b c : K) (f g : List K) → lin F a b f ≡ lin F a c g → (b ≡ c) × (f ≡ g)
-  lin_inj a b c [] [] e = (head-eq_of_cons-eq e, refl)
+  lin_inj a b c [] [] e = (cc, refl)
   lin_inj a b c [] (d ∷ g) e = absurd (omega (arith, ap length e, length_lin a d g))
   lin_inj a b c (d ∷ f) [] e = absurd (omega (arith, ap length e, length_lin a d f))
   lin_inj a b c (d ∷ f) (h ∷ g) e =
-      let r = lin_inj a d h f g (tail-eq_of_cons-eq e) in
-      let k : b ⊕ ⊖ (a ⊗ d) ≡ c ⊕ ⊖ (a ⊗ d) = head-eq_of_cons-eq e ∙ ap (λ w. c ⊕ ⊖ (a ⊗ w)) (sym r.0) in
+      let r = lin_inj a d h f g (cc) in
+      let k : b ⊕ ⊖ (a ⊗ d) ≡ c ⊕ ⊖ (a ⊗ d) = (cc) ∙ ap (λ w. c ⊕ ⊖ (a ⊗ w)) (sym r.0) in
       (add_cancel F b c _ k, ap₂ ◌∷◌ r.0 r.1)
 
   -- the quotient of X·f by X - a determines f
   quotient_inj : (a : K) (f g : List K) → quotient F a f ≡ quotient F a g → f ≡ g
   quotient_inj a [] [] e = refl
-  quotient_inj a [] (d ∷ g) e = absurd (nil≢cons e)
-  quotient_inj a (c ∷ f) [] e = absurd (cons≢nil e)
+  quotient_inj a [] (d ∷ g) e = cc
+  quotient_inj a (c ∷ f) [] e = cc
   quotient_inj a (c ∷ f) (d ∷ g) e =
-      let t = quotient_inj a f g (tail-eq_of_cons-eq e) in
-      let h : c ⊕ a ⊗ eval F f a ≡ d ⊕ a ⊗ eval F f a = head-eq_of_cons-eq e ∙ ap (λ w. d ⊕ a ⊗ eval F w a) (sym t) in
+      let t = quotient_inj a f g (cc) in
+      let h : c ⊕ a ⊗ eval F f a ≡ d ⊕ a ⊗ eval F f a = (cc) ∙ ap (λ w. d ⊕ a ⊗ eval F w a) (sym t) in
       ap₂ ◌∷◌ (add_cancel F c d _ h) t
 
   -- f = f(a) + (X - a)·g, where g has one coefficient less
