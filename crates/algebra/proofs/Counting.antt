@@ -164,6 +164,9 @@ exactly_each {A = A} P n (i ∷ is) x =
     back [] h = absurd h
     back (a ∷ l) h = (a, l, h.0, h.1, refl)
 
+pub pow_one : (q : ℕ) → q ^ 1 ≡ q
+pow_one q = grind (arith, pow-succ' q 0, pow-zero q)
+
 -- the product of equal numbers is a power
 pub product_same : {I : Type 0} (q : ℕ) (is : List I) → product (λ _. q) is ≡ q ^ length is
 product_same q [] = sym (pow-zero q)
