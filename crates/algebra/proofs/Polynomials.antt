@@ -21,10 +21,7 @@ module _ {K : Type 0} (F : Field K) where
   -- a factor that is not zero cancels
   pub mul_cancel : (c a b : K) → (c ≡ 𝟘 → ⊥) → c ⊗ a ≡ c ⊗ b → a ≡ b
   mul_cancel c a b n h =
-      let e : inv c ⊗ (c ⊗ a) ≡ inv c ⊗ (c ⊗ b) = ap (λ z. inv c ⊗ z) h in
-      let k : (z : K) → inv c ⊗ (c ⊗ z) ≡ z =
-      λ z. sym (mul_assoc (inv c) c z) ∙ ap (λ w. w ⊗ z) (mul_comm (inv c) c ∙ mul_inv c n) ∙ one_mul F z in
-      sym (k a) ∙ e ∙ k b
+      cc (mul_assoc (inv c) c a, mul_assoc (inv c) c b, mul_comm (inv c) c, mul_inv c n, one_mul F a, one_mul F b)
 
   -- b + d·((a - b)/d) = a
   pub fraction : (a b d : K) → (d ≡ 𝟘 → ⊥) → b ⊕ d ⊗ ((a ⊕ ⊖ b) ⊗ inv d) ≡ a
@@ -139,8 +136,8 @@ module _ {K : Type 0} (F : Field K) where
   descend : {fa fx ga gx : K} (x a p q : K) → (x ≡ a → ⊥) → fx ≡ fa ⊕ (x ⊕ ⊖ a) ⊗ p → gx ≡ ga ⊕ (x ⊕ ⊖ a) ⊗ q
       → fa ≡ ga → fx ≡ gx → p ≡ q
   descend {fa = fa} x a p q n hf hg e h =
-      let k : fa ⊕ (x ⊕ ⊖ a) ⊗ p ≡ fa ⊕ (x ⊕ ⊖ a) ⊗ q = sym hf ∙ h ∙ hg ∙ ap (λ z. z ⊕ (x ⊕ ⊖ a) ⊗ q) (sym e) in
-      mul_cancel (x ⊕ ⊖ a) p q (λ z. n (sub_zero x a z)) (add_cancel F _ _ fa (add_comm _ fa ∙ k ∙ add_comm fa _))
+      mul_cancel (x ⊕ ⊖ a) p q (λ z. n (sub_zero x a z))
+      (add_cancel F _ _ fa (cc (add_comm ((x ⊕ ⊖ a) ⊗ p) fa, add_comm ((x ⊕ ⊖ a) ⊗ q) fa)))
 
   module _ {I : Type 0} (x : I → K) where
     -- polynomials that agree at as many points as the longer one has coefficients agree everywhere
