@@ -1,7 +1,7 @@
 -- Steps of loops that compute a value, b + (X - a)·f and f + c·r in place, one coefficient at a time. Each lemma takes what holds before
 -- the turn at the coefficient i to what holds after it; s is the list as it stands, s₀ the list as it stood before the loop.
 -- Assumes nothing.
-use Rattle.std.proofs.Common.{◌≡◌, ℕ, ◌+◌, ◌-◌, ◌<◌, ◌≤◌, max, List, [], ◌∷◌, ◌++◌, length, get_or, take, drop, set, sym, refl, ap, ◌∙◌, ap₂, append_assoc, add-zero, arith, get_or-drop, get_or-take, drop-drop, drop-set-lt}
+use Rattle.std.proofs.Common.{◌≡◌, ℕ, ◌+◌, ◌-◌, ◌<◌, ◌≤◌, max, List, [], ◌∷◌, ◌++◌, length, get_or, take, drop, set, sym, refl, ap, ◌∙◌, append_assoc, add-zero, arith, get_or-drop, get_or-take, drop-drop, drop-set-lt}
 use Rattle.std.proofs.Math.Nat.{max-eq_left, max-eq_right}
 use Rattle.std.proofs.Math.Seq.{take-set-lt}
 use Rattle.std.proofs.lemmas.List.{drop_more, drop_all, take_more, take_more_set, length-take-le}

@@ -1,6 +1,6 @@
 -- Rules of calculation that follow from the laws of a field.
 -- Assumes nothing.
-use Rattle.std.proofs.Common.{◌≡◌, sym, refl, ap, ◌∙◌}
+use Rattle.std.proofs.Common.{◌≡◌, sym, ◌∙◌}
 use Rattle.algebra.specs.Field.{Field}
 
 module _ {K : Type 0} (F : Field K) where
