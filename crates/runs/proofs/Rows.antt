@@ -1,11 +1,11 @@
 -- The worked example on opening, over p251: five participants, threshold four, one altered card borne, one symbol. Key 7, value
 -- coefficients 1, 0, 2 and tag coefficients 5, 3.
 -- Assumes nothing.
-use Rattle.std.proofs.Common.{◌≡◌, ℕ, zero, suc, ◌+◌, ◌-◌, ◌<◌, ◌≤◌, Bool, true, false, cond, not, ◌&&◌, ◌||◌, eqb, leb, ◌⊎◌, List, [], ◌∷◌, ◌++◌, map, length, replicate, None, Ok, Err, filter, sym, refl, ap, ◌∙◌, inl, inr, true≢false, arith, lit≤, length-append}
+use Rattle.std.proofs.Common.{◌≡◌, ℕ, zero, suc, ◌+◌, ◌<◌, ◌≤◌, Bool, true, false, not, ◌||◌, eqb, leb, ◌⊎◌, List, [], ◌∷◌, map, length, None, Ok, Err, filter, sym, refl, ap, ◌∙◌, inl, inr, true≢false, arith, lit≤, length-append}
 use Rattle.std.specs.List.{AllByRecursion}
 use Rattle.std.proofs.lemmas.List.Elements.{filter-append}
 use Rattle.std.proofs.ByRecursion.{All-weaker}
-use Rattle.std.proofs.lemmas.Bool.{leb-true, leb-false, eqb-true, eqb-false, ltb-true, or_cases, false_from_ne_true}
+use Rattle.std.proofs.lemmas.Bool.{leb-true, leb-false, eqb-true, eqb-false, ltb-true, false_from_ne_true}
 use Rattle.algebra.specs.Count.{In}
 use Rattle.fields.specs.P251.{p251}
 use Rattle.fields.specs.Doubled.{doubled, sum2, product2}

@@ -1,7 +1,7 @@
 -- How many choices deal the group its cards, and how many of those leave a card unnamed.
 -- Assumes nothing.
-use Rattle.std.proofs.Common.{◌≡◌, ℕ, zero, suc, ◌+◌, ◌-◌, ◌*◌, ◌^◌, ◌<◌, Bool, true, false, cond, not, List, [], ◌∷◌, map, length, get_or, filter, sym, refl, ap, ◌∙◌, subst, zero-add, mul-one, arith}
-use Rattle.std.proofs.Math.Nat.{pow-zero, pow-succ'}
+use Rattle.std.proofs.Common.{◌≡◌, ℕ, zero, suc, ◌+◌, ◌-◌, ◌^◌, ◌<◌, true, false, cond, not, List, [], ◌∷◌, map, length, get_or, sym, ap, ◌∙◌, subst, zero-add, arith}
+use Rattle.std.proofs.Math.Nat.{pow-zero}
 use Rattle.std.specs.List.{range_with_len, AllByRecursion}
 use Rattle.std.proofs.lemmas.List.FromFn.{length-range_with_len}
 use Rattle.std.proofs.lemmas.List.{length-map}
