@@ -1,7 +1,6 @@
 -- The candidate of the decoder is the polynomial of t + 1 coefficients that misses at most t of at least 3·t + 1 points, if there is one.
 -- Assumes nothing.
-use Rattle.std.proofs.Common.{◌≡◌, ℕ, zero, suc, ◌+◌, ◌*◌, ◌<◌, ◌≤◌, Bool, true, false, cond, not, T, leb, List, [], ◌∷◌, length, sym, refl, ap, ◌∙◌, ap₂, arith, leb→le}
-use lib.Dec.{nleb→lt}
+use Rattle.std.proofs.Common.{◌≡◌, ℕ, zero, suc, ◌+◌, ◌*◌, ◌≤◌, Bool, true, false, cond, leb, List, [], ◌∷◌, length, sym, refl, ap, ◌∙◌, ap₂, arith}
 use Rattle.std.specs.List.{AllByRecursion}
 use Rattle.std.proofs.lemmas.Bool.{cases_eq, cond_both, leb-true, leb-false}
 use Rattle.algebra.specs.Field.{Field}
@@ -86,37 +85,26 @@ module _ {K : Type 0} (X : Field K) where
         pub full : length places ≤ t → length places ≡ missing root is
         pub short : length places ≤ suc t
 
+      -- a further point is not taken
+      passed_over : (i : I) (is : List I) (p : Ratio X) (k : Took is p)
+          → (length k.places ≤ t → length k.places ≡ missing root (i ∷ is)) → Took (i ∷ is) p
+      passed_over i is p k full =
+          record { places = k.places; held = k.held; away = λ z a. k.away z a.1; apart = k.apart; right = k.right; full = full; short = k.short }
+
       -- a further point is offered: t + 1 points are taken already, its abscissa is a root of h, or it is taken
       took_more : (i : I) (is : List I) (p : Ratio X) → Took is p → AllByRecursion (λ j. x j ≡ x i → ⊥) is
-          → ((eval X h (x i) ≡ 𝟘 → ⊥) → eval X f (x i) ≡ y i) → (b : Bool) → (T b → length p.top ≤ t)
-          → (T (not b) → t < length p.top) → (e : Dec (eval X h (x i) ≡ 𝟘)) → root i ≡ e
-          → Took (i ∷ is) (cond b (unless X e p (extended X p (x i) (y i))) p)
-      took_more i is p k d r false le gt e s = record {
-        places = k.places;
-        held = k.held;
-        away = λ z a. k.away z a.1;
-        apart = k.apart;
-        right = k.right;
-        full = λ l. absurd (omega (arith, gt tt, k.held.long));
-        short = k.short;
-      }
-      took_more i is p k d r true le gt (yes e) s = record {
-        places = k.places;
-        held = k.held;
-        away = λ z a. k.away z a.1;
-        apart = k.apart;
-        right = k.right;
-        full = λ l. omega (arith, k.full l, ap miss s);
-        short = k.short;
-      }
-      took_more i is p k d r true le gt (no n) s = record {
+          → ((eval X h (x i) ≡ 𝟘 → ⊥) → eval X f (x i) ≡ y i) → (b : Bool) → leb (length p.top) t ≡ b
+          → (e : Dec (eval X h (x i) ≡ 𝟘)) → root i ≡ e → Took (i ∷ is) (cond b (unless X e p (extended X p (x i) (y i))) p)
+      took_more i is p k d r false q e s = passed_over i is p k (λ l. absurd (omega (arith, leb-false _ _ q, k.held.long)))
+      took_more i is p k d r true q (yes e) s = passed_over i is p k (λ l. omega (arith, k.full l, ap miss s))
+      took_more i is p k d r true q (no n) s = record {
         places = i ∷ k.places;
         held = held_more i k.places p k.held (k.away (x i) d);
         away = λ z a. (a.0, k.away z a.1);
         apart = (k.away (x i) d, k.apart);
         right = (r n, k.right);
         full = λ l. omega (arith, k.full (omega (arith, l)), ap miss s);
-        short = omega (arith, le tt, k.held.long);
+        short = omega (arith, leb-true _ _ q, k.held.long);
       }
 
       pub took : (is : List I) → Apart x is → AllByRecursion (λ i. (eval X h (x i) ≡ 𝟘 → ⊥) → eval X f (x i) ≡ y i) is
@@ -125,8 +113,7 @@ module _ {K : Type 0} (X : Field K) where
           record { places = []; held = held_none; away = λ z a. tt; apart = tt; right = tt; full = λ l. refl; short = omega arith }
       took (i ∷ is) d r =
           let p = collected X x y h t is in
-          took_more i is p (took is d.1 r.1) d.0 r.0 (leb (length p.top) t) (leb→le (length p.top) t)
-          (nleb→lt (length p.top) t) (root i) refl
+          took_more i is p (took is d.1 r.1) d.0 r.0 (leb (length p.top) t) refl (root i) refl
 
       -- where t + 1 points or more are not at a root of h, the collection is f
       pub took_right : (is : List I) (p : Ratio X) → Took is p → length f ≡ suc t → suc t ≤ missing root is → p.top ≡ f

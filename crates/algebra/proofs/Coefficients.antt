@@ -1,9 +1,9 @@
 -- Steps of loops that compute a value, b + (X - a)·f and f + c·r in place, one coefficient at a time. Each lemma takes what holds before
 -- the turn at the coefficient i to what holds after it; s is the list as it stands, s₀ the list as it stood before the loop.
 -- Assumes nothing.
-use Rattle.std.proofs.Common.{◌≡◌, ℕ, ◌+◌, ◌-◌, ◌<◌, ◌≤◌, max, List, [], ◌∷◌, ◌++◌, length, get_or, take, drop, set, sym, refl, ap, ◌∙◌, ap₂, append_assoc, arith, get_or-drop, get_or-take, drop-drop, drop-set-lt}
-use native.Mathlib.Nat.{max-eq_left, max-eq_right}
-use lib.Seq.{take-set-lt}
+use Rattle.std.proofs.Common.{◌≡◌, ℕ, ◌+◌, ◌-◌, ◌<◌, ◌≤◌, max, List, [], ◌∷◌, ◌++◌, length, get_or, take, drop, set, sym, refl, ap, ◌∙◌, append_assoc, add-zero, arith, get_or-drop, get_or-take, drop-drop, drop-set-lt}
+use Rattle.std.proofs.Math.Nat.{max-eq_left, max-eq_right}
+use Rattle.std.proofs.Math.Seq.{take-set-lt}
 use Rattle.std.proofs.lemmas.List.{drop_more, drop_all, take_more, take_more_set, length-take-le}
 use Rattle.algebra.specs.Field.{Field}
 use Rattle.algebra.specs.Polynomial.{eval, plus, scale, lin, times_root}
@@ -11,7 +11,7 @@ use Rattle.algebra.proofs.Unique.{length_scale}
 
 -- a write at i leaves what stands after it
 pub tail_more : {K : Type 0} (s s₀ : List K) (i : ℕ) (v : K) → drop i s ≡ drop i s₀ → drop (i + 1) (set s i v) ≡ drop (i + 1) s₀
-tail_more s s₀ i v tail = drop-set-lt (i + 1) s i v (omega arith) ∙ sym (drop-drop 1 i s) ∙ ap (drop 1) tail ∙ drop-drop 1 i s₀
+tail_more s s₀ i v tail = cc (drop-set-lt (i + 1) s i v (omega arith), drop-drop 1 i s, drop-drop 1 i s₀)
 
 module _ {K : Type 0} (X : Field K) where
   open X use {zero as 𝟘, add as ◌⊕◌, mul as ◌⊗◌, neg as ⊖◌}
@@ -39,8 +39,7 @@ module _ {K : Type 0} (X : Field K) where
       → c ⊕ x ⊗ r ≡ eval X (drop (i - 1) f) x
   eval_more f i x r c pos le is h =
       let e : i - 1 + 1 ≡ i = omega arith in
-      let d : drop (i - 1) f ≡ c ∷ drop i f = drop_more f (i - 1) c (omega arith) ∙ ap₂ ◌∷◌ (sym is) (ap (λ z. drop z f) e) in
-      ap (λ z. c ⊕ x ⊗ z) h ∙ sym (ap (λ z. eval X z x) d)
+      cc (drop_more f (i - 1) c (omega arith))
 
   -- b + (X - a)·f, from the first coefficient to the last: the list begins with f, n coefficients, and p is the coefficient of f
   -- that was overwritten last; at first b
@@ -49,22 +48,16 @@ module _ {K : Type 0} (X : Field K) where
       → lin X a b f ≡ take i s ++ lin X a p (drop i (take n s₀))
       → lin X a b f ≡ take (i + 1) (set s i v) ++ lin X a c (drop (i + 1) (take n s₀))
   lin_more f s s₀ n i a b p c v lt le same is vis tail h =
-      let at : get_or (take n s₀) i c ≡ c =
-      get_or-take n s₀ i c lt ∙ ap (λ z. get_or s₀ z c) (omega arith) ∙ sym (get_or-drop i s₀ 0 c) ∙ ap (λ z. get_or z 0 c) (sym tail)
-      ∙ get_or-drop i s 0 c ∙ ap (λ z. get_or s z c) (omega arith) ∙ sym is in
-      let cut : drop i (take n s₀) ≡ c ∷ drop (i + 1) (take n s₀) =
-      drop_more (take n s₀) i c (omega (arith, length-take-le n s₀ (omega arith))) ∙ ap (λ z. z ∷ drop (i + 1) (take n s₀)) at in
-      h ∙ ap (λ z. take i s ++ lin X a p z) cut ∙ ap (λ z. take i s ++ z ∷ lin X a c (drop (i + 1) (take n s₀))) (sym vis)
-      ∙ sym (append_assoc (take i s) (v ∷ []) (lin X a c (drop (i + 1) (take n s₀))))
-      ∙ ap (λ z. z ++ lin X a c (drop (i + 1) (take n s₀))) (sym (take_more_set s i v (omega arith)))
+      let at : get_or (take n s₀) i c ≡ c = cc (get_or-take n s₀ i c lt, get_or-drop i s₀ 0 c, get_or-drop i s 0 c, add-zero i) in
+      let next = drop_more (take n s₀) i c (omega (arith, length-take-le n s₀ (omega arith))) in
+      cc (append_assoc (take i s) (v ∷ []) (lin X a c (drop (i + 1) (take n s₀))), take_more_set s i v (omega arith))
 
   -- the last turn writes the further coefficient
   pub lin_done : (f s s₀ : List K) (n i : ℕ) (a b p : K) → i ≡ n → n < length s₀ → length s ≡ length s₀
       → lin X a b f ≡ take i s ++ lin X a p (drop i (take n s₀)) → take (n + 1) (set s n p) ≡ lin X a b f
   lin_done f s s₀ n i a b p e le same h =
       let none : drop n (take n s₀) ≡ [] = drop_all n (take n s₀) (omega (arith, length-take-le n s₀ (omega arith))) in
-      take_more_set s n p (omega arith)
-      ∙ sym (h ∙ ap (λ z. take z s ++ lin X a p (drop z (take n s₀))) e ∙ ap (λ z. take n s ++ lin X a p z) none)
+      cc (take_more_set s n p (omega arith))
 
   -- a further coefficient in a sum with a shorter polynomial
   plus_past : (f g : List K) (d : K) → length f ≤ length g → plus X f (g ++ d ∷ []) ≡ plus X f g ++ d ∷ []
@@ -87,22 +80,22 @@ module _ {K : Type 0} (X : Field K) where
     added_within a below at =
         let g = scale X c (take i r) in
         let lg : length g ≡ i = long r i c (omega arith) in
-        let m : max n (i + 1) ≡ n = max-eq_left (omega arith) in
-        let front : take n s ≡ plus X f g = ap (λ z. take z s) (sym (max-eq_left {n = n} {m = i} (omega arith))) ∙ h in
-        let here : get_or (plus X f g) i a ≡ a = ap (λ z. get_or z i a) (sym front) ∙ get_or-take n s i a below ∙ sym at in
-        ap (λ z. take z (set s i (a ⊕ c ⊗ b))) m ∙ take-set-lt n s i (a ⊕ c ⊗ b) below ∙ ap (λ z. set z i (a ⊕ c ⊗ b)) front
-        ∙ ap (λ z. set (plus X f g) i (z ⊕ c ⊗ b)) (sym here)
-        ∙ ap (λ z. set (plus X f g) z (get_or (plus X f g) z a ⊕ c ⊗ b)) (sym lg)
-        ∙ sym (plus_push f g (c ⊗ b) a (omega arith)) ∙ ap (plus X f) (sym (scaled_more r i c b lt is))
+        let before : max n i ≡ n = max-eq_left (omega arith) in
+        let after : max n (i + 1) ≡ n = max-eq_left (omega arith) in
+        cc (
+          take-set-lt n s i (a ⊕ c ⊗ b) below,
+          get_or-take n s i a below,
+          plus_push f g (c ⊗ b) a (omega arith),
+          scaled_more r i c b lt is,
+        )
 
     pub added_past : n ≤ i → take (max n (i + 1)) (set s i (c ⊗ b)) ≡ plus X f (scale X c (take (i + 1) r))
     added_past past =
         let g = scale X c (take i r) in
         let lg : length g ≡ i = long r i c (omega arith) in
-        let m : max n (i + 1) ≡ i + 1 = max-eq_right (omega arith) in
-        let front : take i s ≡ plus X f g = ap (λ z. take z s) (sym (max-eq_right {n = n} {m = i} past)) ∙ h in
-        ap (λ z. take z (set s i (c ⊗ b))) m ∙ take_more_set s i (c ⊗ b) (omega arith) ∙ ap (λ z. z ++ c ⊗ b ∷ []) front
-        ∙ sym (plus_past f g (c ⊗ b) (omega arith)) ∙ ap (plus X f) (sym (scaled_more r i c b lt is))
+        let before : max n i ≡ i = max-eq_right past in
+        let after : max n (i + 1) ≡ i + 1 = max-eq_right (omega arith) in
+        cc (take_more_set s i (c ⊗ b) (omega arith), plus_past f g (c ⊗ b) (omega arith), scaled_more r i c b lt is)
 
   -- (X - z)·f as b + (X - z)·f with b = 0
   pub times_root_is : (z o : K) (f : List K) → 0 < length f → o ≡ 𝟘 → lin X z o f ≡ times_root X z f

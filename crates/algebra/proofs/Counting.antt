@@ -2,8 +2,7 @@
 -- one.
 -- Assumes nothing.
 use Rattle.std.proofs.Common.{◌≡◌, ℕ, suc, ◌+◌, ◌*◌, ◌^◌, ◌≤◌, Bool, cond, List, [], ◌∷◌, ◌++◌, map, length, filter, sym, refl, ap, ◌∙◌, subst, ap₂, inl, inr, arith, length-append}
-use mathlib.Core.List.{head-eq_of_cons-eq, tail-eq_of_cons-eq}
-use native.Mathlib.Nat.{pow-succ', pow-zero}
+use Rattle.std.proofs.Math.Nat.{pow-succ', pow-zero}
 use Rattle.std.specs.List.{AllByRecursion}
 use Rattle.std.proofs.lemmas.List.{length-map}
 use Rattle.std.proofs.ByRecursion.{All-append, All-weaker, All-map}
@@ -158,12 +157,15 @@ pub exactly_each : {I A : Type 0} (P : I → A → Type 0) (n : I → ℕ) (is :
     → Exactly (product n is) (AtEach P is)
 exactly_each P n [] x = exactly_one [] tt (λ l h. grind arith)
 exactly_each {A = A} P n (i ∷ is) x =
-    exactly_with ◌∷◌ (λ a a' l l' e. (head-eq_of_cons-eq e, tail-eq_of_cons-eq e)) (λ a l p q. (p, q)) back (x i (inl refl))
+    exactly_with ◌∷◌ (λ a a' l l' e. (cc, cc)) (λ a l p q. (p, q)) back (x i (inl refl))
     (exactly_each P n is (λ j k. x j (inr k)))
   where
     back : (l : List A) → AtEach P (i ∷ is) l → (a : A) × (t : List A) × P i a × AtEach P is t × (l ≡ a ∷ t)
     back [] h = absurd h
     back (a ∷ l) h = (a, l, h.0, h.1, refl)
+
+pub pow_one : (q : ℕ) → q ^ 1 ≡ q
+pow_one q = grind (arith, pow-succ' q 0, pow-zero q)
 
 -- the product of equal numbers is a power
 pub product_same : {I : Type 0} (q : ℕ) (is : List I) → product (λ _. q) is ≡ q ^ length is

@@ -1,8 +1,7 @@
 -- How many lists have s elements, and how many polynomials pass through given points.
 -- Assumes nothing.
 use Rattle.std.proofs.Common.{◌≡◌, ℕ, zero, suc, ◌+◌, ◌^◌, List, [], ◌∷◌, length, sym, refl, ap, subst, arith}
-use mathlib.Core.List.{head-eq_of_cons-eq, tail-eq_of_cons-eq}
-use native.Mathlib.Nat.{pow-succ', pow-zero}
+use Rattle.std.proofs.Math.Nat.{pow-succ', pow-zero}
 use Rattle.std.proofs.lemmas.List.{nil_from_length}
 use Rattle.algebra.specs.Field.{Field}
 use Rattle.algebra.specs.Polynomial.{Apart, curve, Through}
@@ -15,7 +14,7 @@ pub exactly_lists : {K : Type 0} (q : ℕ) → Exactly q (λ (k : K). Unit {0}) 
 exactly_lists {K} q x zero = subst (λ z. Exactly z (λ (f : List K). length f ≡ 0)) (sym (pow-zero q)) (exactly_one [] refl nil_from_length)
 exactly_lists {K} q x (suc s) =
     subst (λ z. Exactly z (λ (f : List K). length f ≡ suc s)) (sym (pow-succ' q s))
-    (exactly_with ◌∷◌ (λ a b l r e. (head-eq_of_cons-eq e, tail-eq_of_cons-eq e)) (λ a l _ e. ap suc e) back x (exactly_lists q x s))
+    (exactly_with ◌∷◌ (λ a b l r e. (cc, cc)) (λ a l _ e. ap suc e) back x (exactly_lists q x s))
   where
     back : (f : List K) → length f ≡ suc s → (k : K) × (g : List K) × Unit {0} × (length g ≡ s) × (f ≡ k ∷ g)
     back [] e = absurd (omega arith)

@@ -1,4 +1,5 @@
--- The offer of a point: what it leaves where the abscissa is a root and where the point is taken, and how many coefficients the bottom of a collected ratio has at most.
+-- The offer of a point: what it leaves where the abscissa is a root and where the point is taken, and how many coefficients the
+-- bottom of a collected ratio has at most.
 -- Assumes nothing.
 use Rattle.std.proofs.Common.{◌≡◌, ℕ, suc, ◌≤◌, List, [], ◌∷◌, length, arith}
 use Rattle.algebra.specs.Field.{Field}

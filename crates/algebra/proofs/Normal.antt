@@ -151,14 +151,13 @@ module _ {K : Type 0} (F : Field K) where
     times_monomial_is : (m n : Monomial) → monomial_value (times_monomial m n) ≡ monomial_value m ⊗ monomial_value n
     times_monomial_is [] n = sym (one_mul F (monomial_value n))
     times_monomial_is (i ∷ m) n =
-        insert_is i (times_monomial m n) ∙ ap (λ z. get_or ρ i 𝟘 ⊗ z) (times_monomial_is m n)
-        ∙ sym (mul_assoc (get_or ρ i 𝟘) (monomial_value m) (monomial_value n))
+        cc (insert_is i (times_monomial m n), times_monomial_is m n, mul_assoc (get_or ρ i 𝟘) (monomial_value m) (monomial_value n))
 
     minus_plus : (x r : K) → r ≡ x ⊕ (⊖ x ⊕ r)
-    minus_plus x r = sym (sym (add_assoc x (⊖ x) r) ∙ ap (λ z. z ⊕ r) (add_neg x) ∙ zero_add F r)
+    minus_plus x r = cc (add_assoc x (⊖ x) r, add_neg x, zero_add F r)
 
     plus_minus : (x r : K) → r ≡ ⊖ x ⊕ (x ⊕ r)
-    plus_minus x r = sym (sym (add_assoc (⊖ x) x r) ∙ ap (λ z. z ⊕ r) (neg_add F x) ∙ zero_add F r)
+    plus_minus x r = cc (add_assoc (⊖ x) x r, neg_add F x, zero_add F r)
 
     add_term_is : (t : Term) (p : List Term) → form_value (add_term t p) ≡ term_value t ⊕ form_value p
     add_term_is t [] = refl
@@ -175,8 +174,7 @@ module _ {K : Type 0} (F : Field K) where
     add_form_is : (p q : List Term) → form_value (add_form p q) ≡ form_value p ⊕ form_value q
     add_form_is [] q = sym (zero_add F (form_value q))
     add_form_is (t ∷ p) q =
-        add_term_is t (add_form p q) ∙ ap (λ z. term_value t ⊕ z) (add_form_is p q)
-        ∙ sym (add_assoc (term_value t) (form_value p) (form_value q))
+        cc (add_term_is t (add_form p q), add_form_is p q, add_assoc (term_value t) (form_value p) (form_value q))
 
     times_sign_is : (s r : Bool) (x y : K) → with_sign (signs_equal s r) (x ⊗ y) ≡ with_sign s x ⊗ with_sign r y
     times_sign_is s r x y = grind (arith, mul_neg F x y, neg_mul F x y, neg_mul F x (⊖ y), neg_neg F (x ⊗ y))

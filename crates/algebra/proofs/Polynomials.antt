@@ -2,7 +2,6 @@
 -- coefficients are equal, and through points with distinct abscissae pass the polynomials of `curve` and no other.
 -- Assumes nothing.
 use Rattle.std.proofs.Common.{◌≡◌, ℕ, suc, ◌+◌, ◌<◌, ◌≤◌, List, [], ◌∷◌, length, sym, refl, ap, ◌∙◌, ap₂, arith}
-use mathlib.Core.List.{head-eq_of_cons-eq, tail-eq_of_cons-eq, nil≢cons, cons≢nil}
 use Rattle.std.specs.List.{AllByRecursion}
 use Rattle.algebra.specs.Field.{Field}
 use Rattle.algebra.specs.Polynomial.{Apart, eval, plus, scale, times, lin, times_root, quotient, curve, interpolated, Through}
@@ -22,10 +21,7 @@ module _ {K : Type 0} (F : Field K) where
   -- a factor that is not zero cancels
   pub mul_cancel : (c a b : K) → (c ≡ 𝟘 → ⊥) → c ⊗ a ≡ c ⊗ b → a ≡ b
   mul_cancel c a b n h =
-      let e : inv c ⊗ (c ⊗ a) ≡ inv c ⊗ (c ⊗ b) = ap (λ z. inv c ⊗ z) h in
-      let k : (z : K) → inv c ⊗ (c ⊗ z) ≡ z =
-      λ z. sym (mul_assoc (inv c) c z) ∙ ap (λ w. w ⊗ z) (mul_comm (inv c) c ∙ mul_inv c n) ∙ one_mul F z in
-      sym (k a) ∙ e ∙ k b
+      cc (mul_assoc (inv c) c a, mul_assoc (inv c) c b, mul_comm (inv c) c, mul_inv c n, one_mul F a, one_mul F b)
 
   -- b + d·((a - b)/d) = a
   pub fraction : (a b d : K) → (d ≡ 𝟘 → ⊥) → b ⊕ d ⊗ ((a ⊕ ⊖ b) ⊗ inv d) ≡ a
@@ -112,22 +108,22 @@ module _ {K : Type 0} (F : Field K) where
 
   -- b + (X - a)·f determines b and f
   pub lin_inj : (a b c : K) (f g : List K) → lin F a b f ≡ lin F a c g → (b ≡ c) × (f ≡ g)
-  lin_inj a b c [] [] e = (head-eq_of_cons-eq e, refl)
+  lin_inj a b c [] [] e = (cc, refl)
   lin_inj a b c [] (d ∷ g) e = absurd (omega (arith, ap length e, length_lin a d g))
   lin_inj a b c (d ∷ f) [] e = absurd (omega (arith, ap length e, length_lin a d f))
   lin_inj a b c (d ∷ f) (h ∷ g) e =
-      let r = lin_inj a d h f g (tail-eq_of_cons-eq e) in
-      let k : b ⊕ ⊖ (a ⊗ d) ≡ c ⊕ ⊖ (a ⊗ d) = head-eq_of_cons-eq e ∙ ap (λ w. c ⊕ ⊖ (a ⊗ w)) (sym r.0) in
+      let r = lin_inj a d h f g (cc) in
+      let k : b ⊕ ⊖ (a ⊗ d) ≡ c ⊕ ⊖ (a ⊗ d) = (cc) ∙ ap (λ w. c ⊕ ⊖ (a ⊗ w)) (sym r.0) in
       (add_cancel F b c _ k, ap₂ ◌∷◌ r.0 r.1)
 
   -- the quotient of X·f by X - a determines f
   quotient_inj : (a : K) (f g : List K) → quotient F a f ≡ quotient F a g → f ≡ g
   quotient_inj a [] [] e = refl
-  quotient_inj a [] (d ∷ g) e = absurd (nil≢cons e)
-  quotient_inj a (c ∷ f) [] e = absurd (cons≢nil e)
+  quotient_inj a [] (d ∷ g) e = cc
+  quotient_inj a (c ∷ f) [] e = cc
   quotient_inj a (c ∷ f) (d ∷ g) e =
-      let t = quotient_inj a f g (tail-eq_of_cons-eq e) in
-      let h : c ⊕ a ⊗ eval F f a ≡ d ⊕ a ⊗ eval F f a = head-eq_of_cons-eq e ∙ ap (λ w. d ⊕ a ⊗ eval F w a) (sym t) in
+      let t = quotient_inj a f g (cc) in
+      let h : c ⊕ a ⊗ eval F f a ≡ d ⊕ a ⊗ eval F f a = (cc) ∙ ap (λ w. d ⊕ a ⊗ eval F w a) (sym t) in
       ap₂ ◌∷◌ (add_cancel F c d _ h) t
 
   -- f = f(a) + (X - a)·g, where g has one coefficient less
@@ -140,8 +136,8 @@ module _ {K : Type 0} (F : Field K) where
   descend : {fa fx ga gx : K} (x a p q : K) → (x ≡ a → ⊥) → fx ≡ fa ⊕ (x ⊕ ⊖ a) ⊗ p → gx ≡ ga ⊕ (x ⊕ ⊖ a) ⊗ q
       → fa ≡ ga → fx ≡ gx → p ≡ q
   descend {fa = fa} x a p q n hf hg e h =
-      let k : fa ⊕ (x ⊕ ⊖ a) ⊗ p ≡ fa ⊕ (x ⊕ ⊖ a) ⊗ q = sym hf ∙ h ∙ hg ∙ ap (λ z. z ⊕ (x ⊕ ⊖ a) ⊗ q) (sym e) in
-      mul_cancel (x ⊕ ⊖ a) p q (λ z. n (sub_zero x a z)) (add_cancel F _ _ fa (add_comm _ fa ∙ k ∙ add_comm fa _))
+      mul_cancel (x ⊕ ⊖ a) p q (λ z. n (sub_zero x a z))
+      (add_cancel F _ _ fa (cc (add_comm ((x ⊕ ⊖ a) ⊗ p) fa, add_comm ((x ⊕ ⊖ a) ⊗ q) fa)))
 
   module _ {I : Type 0} (x : I → K) where
     -- polynomials that agree at as many points as the longer one has coefficients agree everywhere

@@ -1,6 +1,6 @@
 -- Rules of calculation that follow from the laws of a field.
 -- Assumes nothing.
-use Rattle.std.proofs.Common.{◌≡◌, sym, refl, ap, ◌∙◌}
+use Rattle.std.proofs.Common.{◌≡◌, sym, ◌∙◌}
 use Rattle.algebra.specs.Field.{Field}
 
 module _ {K : Type 0} (F : Field K) where
@@ -13,23 +13,19 @@ module _ {K : Type 0} (F : Field K) where
   zero_add a = add_comm 𝟘 a ∙ add_zero a
 
   pub add_left_comm : (a b c : K) → a ⊕ (b ⊕ c) ≡ b ⊕ (a ⊕ c)
-  add_left_comm a b c = sym (add_assoc a b c) ∙ ap (λ z. z ⊕ c) (add_comm a b) ∙ add_assoc b a c
+  add_left_comm a b c = cc (add_assoc a b c, add_comm a b, add_assoc b a c)
 
   pub mul_left_comm : (a b c : K) → a ⊗ (b ⊗ c) ≡ b ⊗ (a ⊗ c)
-  mul_left_comm a b c = sym (mul_assoc a b c) ∙ ap (λ z. z ⊗ c) (mul_comm a b) ∙ mul_assoc b a c
+  mul_left_comm a b c = cc (mul_assoc a b c, mul_comm a b, mul_assoc b a c)
 
   pub add_mul : (a b c : K) → (a ⊕ b) ⊗ c ≡ (a ⊗ c) ⊕ (b ⊗ c)
-  add_mul a b c = mul_comm (a ⊕ b) c ∙ mul_add c a b ∙ rw (mul_comm c a, mul_comm c b) refl
+  add_mul a b c = cc (mul_comm (a ⊕ b) c, mul_add c a b, mul_comm c a, mul_comm c b)
 
   pub add_cancel : (a b c : K) → a ⊕ c ≡ b ⊕ c → a ≡ b
-  add_cancel a b c h = sym (undone a) ∙ ap (λ z. z ⊕ (⊖ c)) h ∙ undone b
-    where
-      undone : (x : K) → x ⊕ c ⊕ ⊖ c ≡ x
-      undone x = add_assoc x c (⊖ c) ∙ ap (λ z. x ⊕ z) (add_neg c) ∙ add_zero x
+  add_cancel a b c h = cc (add_assoc a c (⊖ c), add_assoc b c (⊖ c), add_neg c, add_zero a, add_zero b)
 
   pub mul_zero : (a : K) → a ⊗ 𝟘 ≡ 𝟘
-  mul_zero a =
-      add_cancel (a ⊗ 𝟘) 𝟘 (a ⊗ 𝟘) (sym (mul_add a 𝟘 𝟘) ∙ ap (λ z. a ⊗ z) (add_zero 𝟘) ∙ sym (zero_add (a ⊗ 𝟘)))
+  mul_zero a = add_cancel (a ⊗ 𝟘) 𝟘 (a ⊗ 𝟘) (cc (mul_add a 𝟘 𝟘, add_zero 𝟘, zero_add (a ⊗ 𝟘)))
 
   pub one_mul : (a : K) → 𝟙 ⊗ a ≡ a
   one_mul a = mul_comm 𝟙 a ∙ mul_one a
@@ -53,17 +49,14 @@ module _ {K : Type 0} (F : Field K) where
   pub neg_sum : (a b : K) → ⊖ (a ⊕ b) ≡ ⊖ a ⊕ ⊖ b
   neg_sum a b =
       sym (neg_unique (a ⊕ b) (⊖ a ⊕ ⊖ b)
-      (add_assoc a b _ ∙ ap (λ z. a ⊕ z) (add_left_comm b (⊖ a) (⊖ b) ∙ ap (λ z. ⊖ a ⊕ z) (add_neg b) ∙ add_zero (⊖ a))
-      ∙ add_neg a))
+      (cc (add_assoc a b (⊖ a ⊕ ⊖ b), add_left_comm b (⊖ a) (⊖ b), add_neg b, add_zero (⊖ a), add_neg a)))
 
   pub neg_mul : (a b : K) → ⊖ a ⊗ b ≡ ⊖ (a ⊗ b)
-  neg_mul a b = neg_unique (a ⊗ b) (⊖ a ⊗ b) (sym (add_mul a (⊖ a) b) ∙ ap (λ z. z ⊗ b) (add_neg a) ∙ zero_mul b)
+  neg_mul a b = neg_unique (a ⊗ b) (⊖ a ⊗ b) (cc (add_mul a (⊖ a) b, add_neg a, zero_mul b))
 
   pub mul_neg : (a b : K) → a ⊗ ⊖ b ≡ ⊖ (a ⊗ b)
-  mul_neg a b = mul_comm a (⊖ b) ∙ neg_mul b a ∙ ap ⊖◌ (mul_comm b a)
+  mul_neg a b = cc (mul_comm a (⊖ b), neg_mul b a, mul_comm b a)
 
   -- a product with a factor that is not zero is zero only where the other factor is
   pub zero_factor : (a b : K) → a ⊗ b ≡ 𝟘 → (a ≡ 𝟘 → ⊥) → b ≡ 𝟘
-  zero_factor a b e n =
-      sym (one_mul b) ∙ ap (λ z. z ⊗ b) (sym (mul_inv a n) ∙ mul_comm a (inv a)) ∙ mul_assoc (inv a) a b
-      ∙ ap (λ z. inv a ⊗ z) e ∙ mul_zero (inv a)
+  zero_factor a b e n = cc (one_mul b, mul_inv a n, mul_comm a (inv a), mul_assoc (inv a) a b, mul_zero (inv a))

@@ -1,9 +1,9 @@
 -- The proofs of the theorems on polynomials over every finite field.
 -- Assumes nothing.
-use Rattle.std.proofs.Common.{◌≡◌, ℕ, zero, suc, ◌+◌, ◌-◌, ◌*◌, ◌^◌, ◌<◌, ◌≤◌, cond, List, [], ◌∷◌, map, length, is_some, Some, None, filter, Option, sym, refl, ap, ◌∙◌, subst, inl, inr, mul-one, arith}
+use Rattle.std.proofs.Common.{◌≡◌, ℕ, zero, suc, ◌+◌, ◌-◌, ◌^◌, ◌<◌, ◌≤◌, cond, List, [], ◌∷◌, map, length, is_some, Some, None, filter, Option, sym, refl, ap, ◌∙◌, subst, inl, inr, arith}
 use mathlib.Core.HLevel.{Σ_prop_path}
 use native.Mathlib.Bridge.{le_prop}
-use native.Mathlib.Nat.{pow-zero, pow-succ'}
+use Rattle.std.proofs.Math.Nat.{pow-zero}
 use Rattle.std.proofs.lemmas.List.{length-map}
 use Rattle.algebra.specs.Field.{Field}
 use Rattle.algebra.specs.Doubling.{Below}
@@ -11,7 +11,7 @@ use Rattle.algebra.specs.Polynomial.{Apart, eval}
 use Rattle.algebra.specs.Count.{In, Exactly, AtEach}
 use Rattle.algebra.specs.Decoder.{errors}
 use Rattle.algebra.specs.Theorems.{abscissa, ordinate, Passes, agreements, AgreementIsEquality, OneInterpolates, ExactlyQPass, Given, with_further, all_points, DistinctPoints, ExactlyTheseTuples, OneDecodes}
-use Rattle.algebra.proofs.Counting.{all_in, all_from_in, in_map, in_map_back, apart_map, exactly_iff, exactly_each, free, free_kept, product_free}
+use Rattle.algebra.proofs.Counting.{all_in, all_from_in, in_map, in_map_back, apart_map, exactly_iff, exactly_each, free, free_kept, pow_one, product_free}
 use Rattle.algebra.proofs.Curves.{exactly_curves}
 use Rattle.algebra.proofs.Filter.{length_having}
 use Rattle.algebra.proofs.Polynomials.{same_list}
@@ -65,7 +65,7 @@ module _ (q : ℕ) (F : Field (Below q)) where
   q_pass : (points : List (Below q × Below q)) → Apart abscissa points → Exactly q (λ f. (length f ≡ length points + 1) × Passes F points f)
   q_pass points d =
       subst (λ n. Exactly n (λ f. (length f ≡ length points + 1) × Passes F points f))
-      (pow-succ' q 0 ∙ ap (λ z. q * z) (pow-zero q) ∙ mul-one q)
+      (pow_one q)
       (exactly_iff (λ f h. (omega (arith, h.0), h.1)) (λ f h. (omega (arith, h.0), h.1))
       (exactly_curves F q (exactly_below q) abscissa points ordinate 1 d))
 

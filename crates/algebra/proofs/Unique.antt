@@ -122,5 +122,5 @@ module _ {K : Type 0} (F : Field K) where
         few_roots =
             let few : suc m ≤ length (having dec_root is) → ⊥ =
             λ h. e_not_zero
-                (roots_zero x (having dec_root is) e (apart_having dec_root x is d) (omega arith) (having_all dec_root is)) in
+            (roots_zero x (having dec_root is) e (apart_having dec_root x is d) (omega arith) (having_all dec_root is)) in
             omega (arith, few)

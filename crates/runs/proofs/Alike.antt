@@ -1,6 +1,6 @@
 -- What every call answers under a choice that is no exception.
 -- Assumes nothing.
-use Rattle.std.proofs.Common.{◌≡◌, ℕ, ◌-◌, ◌<◌, ◌≤◌, Bool, true, false, not, eqb, leb, ◌⊎◌, List, [], ◌++◌, map, length, get_or, replicate, Some, None, Ok, Err, filter, Option, Result, sym, refl, ap, ◌∙◌, subst, ap₂, inl, inr, arith}
+use Rattle.std.proofs.Common.{◌≡◌, ℕ, ◌<◌, ◌≤◌, Bool, true, false, not, eqb, leb, ◌⊎◌, List, [], map, length, get_or, Some, None, Ok, Err, filter, Option, Result, sym, refl, ap, ◌∙◌, subst, ap₂, inl, inr, arith}
 use Rattle.std.proofs.lemmas.List.{length-map}
 use Rattle.std.proofs.lemmas.List.Elements.{filter_agree}
 use Rattle.std.proofs.lemmas.Bool.{leb-true, leb-false, eqb-true, not-false, cases_Bool, cond-true, cond-false}
@@ -16,7 +16,7 @@ use Rattle.runs.specs.Runs.{Run, start, ◌then◌, Each, Beginning, present, wi
 use Rattle.runs.specs.Law.{Deal, Group, Choice, Move, as_dealt, just, called, Permitted, card_under, calls, opening, Passes, Lies, Deals, Identifies}
 use Rattle.runs.proofs.Collected.{number, tested, numbers_kept}
 use Rattle.runs.proofs.Tables.{table_lying, lying_length, lying_lies, table_present, table_withdraw, present_by, withdraw_by}
-use Rattle.runs.proofs.Opened.{few_clean, many_clean}
+use Rattle.runs.proofs.Opened.{refusing, opening_to, few_clean, many_clean}
 use Rattle.runs.proofs.Dealt.{value_polynomials, value_polynomials_codes, key_is, deals_sound, card_value}
 use Rattle.runs.proofs.Likeness.{dealt_refusal, same_some_lies, same_lying, same_altered, same_unaltered}
 use Rattle.runs.proofs.Beginnings.{whole}
@@ -87,21 +87,14 @@ module _ (D : Deal) (group : List ℕ) (grp : Group D.figures group) (c : Choice
           (deals_sound D group c hc) (most D group grp c hc past permitted) buffer names three (value_polynomials D)
           (value_polynomials_codes D) values_dealt
           (omega (arith, clean_count))
-          ∙ ap₂ (λ (m : ℕ) (l : List ℕ). record {
-            answer = Ok (m, length l);
-            key = map (λ j. value_at_lem codes (value_polynomials D j) 0) (places figures);
-            names = l ++ replicate (length names - length l) 0;
-          }) (lying_length codes figures u v (calls D c past)) strays_are
-          ∙ ap (λ (k : List ℕ). record {
-            answer = Ok (length (numbers_lying codes figures (calls D c past)), length A);
-            key = k;
-            names = A ++ replicate (length names - length A) 0;
-          }) (key_is D);
+          ∙ ap₂ (λ m l. opening_to m l (map (λ j. value_at_lem codes (value_polynomials D j) 0) (places figures)) names)
+          (lying_length codes figures u v (calls D c past)) strays_are
+          ∙ ap (λ k. opening_to (length (numbers_lying codes figures (calls D c past))) A k names) (key_is D);
       refuses_else = λ few.
           few_clean laws figures (cards D group grp c hc past permitted) (all_right D group grp c hc past permitted) three.enough
           (λ j. get_or c j [])
           (deals_sound D group c hc) (most D group grp c hc past permitted) buffer names three (omega (arith, clean_count))
-          ∙ ap (λ (l : List ℕ). record { answer = Err (36, length l); key = buffer; names = l ++ replicate (length names - length l) 0 }) strays_are;
+          ∙ ap (λ l. refusing 36 l buffer names) strays_are;
     }
 
 -- ---- two choices
@@ -149,13 +142,12 @@ module _ (D : Deal) (group : List ℕ) (grp : Group D.figures group) (b c : Choi
           → opening D b past buffer names ≡ opening D c past buffer names
       by (inl e) =
           ib.gives_the_key (leb-true _ _ e)
-          ∙ ap₂ (λ (m l : List ℕ). record { answer = Ok (length m, length l); key = key; names = l ++ replicate (length names - length l) 0 })
+          ∙ ap₂ (λ (m l : List ℕ). opening_to (length m) l key names)
           (same_lying D group b c hb hc past permitted) (same_altered D group b c hb hc past permitted)
           ∙ sym (ic.gives_the_key (subst (λ l. figures.k ≤ length l) same_free (leb-true _ _ e)))
       by (inr e) =
           ib.refuses_else (leb-false _ _ e)
-          ∙ ap (λ (l : List ℕ). record { answer = Err (36, length l); key = buffer; names = l ++ replicate (length names - length l) 0 })
-          (same_altered D group b c hb hc past permitted)
+          ∙ ap (λ l. refusing 36 l buffer names) (same_altered D group b c hb hc past permitted)
           ∙ sym (ic.refuses_else (subst (λ l. length l < figures.k) same_free (leb-false _ _ e)))
 
   -- any open

@@ -1,6 +1,6 @@
 -- How a run begins.
 -- Assumes nothing.
-use Rattle.std.proofs.Common.{◌≡◌, ℕ, sym, refl, subst, inl, inr, arith}
+use Rattle.std.proofs.Common.{◌≡◌, sym, refl, subst, inl, inr}
 use Rattle.runs.specs.Runs.{Run, start, ◌then◌, Each, Beginning}
 
 -- a run begins with all of itself

@@ -1,9 +1,8 @@
 -- The choices under which some accepted altered card would go unnamed: few for each such card.
 -- Assumes nothing.
-use Rattle.std.proofs.Common.{◌≡◌, ℕ, ◌+◌, ◌-◌, ◌*◌, ◌^◌, ◌<◌, ◌≤◌, Bool, true, false, cond, not, ◌&&◌, ◌||◌, eqb, ◌⊎◌, List, [], ◌∷◌, ◌++◌, length, Some, None, filter, sym, refl, ap, ◌∙◌, subst, ap₂, inl, inr, ⊎_elim, true≢false, add-mul, one-mul, zero-add, arith, length-append}
-use mathlib.Core.Bool.{false≢true}
-use native.Mathlib.Nat.{pow-le-pow_right}
-use Rattle.std.proofs.lemmas.Bool.{and_from, and_parts, or_cases, not-true, cases_Bool}
+use Rattle.std.proofs.Common.{◌≡◌, ℕ, ◌+◌, ◌-◌, ◌*◌, ◌^◌, ◌<◌, ◌≤◌, Bool, true, false, cond, not, ◌&&◌, ◌||◌, eqb, ◌⊎◌, List, [], ◌∷◌, ◌++◌, length, Some, filter, sym, refl, ap, ◌∙◌, subst, ap₂, inl, inr, ⊎_elim, true≢false, arith, length-append}
+use Rattle.std.proofs.Math.Nat.{pow-le-pow_right}
+use Rattle.std.proofs.lemmas.Bool.{and_from, and_parts, not-true, cases_Bool}
 use Rattle.std.proofs.lemmas.Option.{none-some}
 use Rattle.algebra.specs.Count.{In, Exactly}
 use Rattle.algebra.proofs.Counting.{all_in, in_left, in_right}
@@ -11,7 +10,7 @@ use Rattle.fields.specs.DoubledLaws.{doubled_laws}
 use Rattle.scheme.specs.Dealing.{places}
 use Rattle.runs.specs.Cards.{Card}
 use Rattle.runs.specs.Opening.{some}
-use Rattle.runs.specs.Runs.{Run, start, ◌then◌, Each, Beginning, present, withdraw, seal, reopen, opens, present_accepted, withdraw_accepted, lies, value_altered, tag_altered, altered, altered_values}
+use Rattle.runs.specs.Runs.{Run, start, ◌then◌, Each, Beginning, present, withdraw, seal, reopen, opens, present_accepted, lies, value_altered, tag_altered, altered, altered_values}
 use Rattle.runs.specs.Law.{Deal, Group, Choice, Move, as_dealt, just, Permitted, q, dealt_choice, card_under, calls, Lies, Deals, forgeries}
 use Rattle.runs.proofs.Lists.{some_in, none_in, in_kept, place_below, in_places}
 use Rattle.runs.proofs.Beginnings.{whole}

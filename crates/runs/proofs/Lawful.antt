@@ -1,6 +1,6 @@
 -- The law over runs, and that every run of calls is a script's.
 -- Assumes nothing.
-use Rattle.std.proofs.Common.{◌≡◌, ℕ, ◌-◌, ◌^◌, ◌<◌, ◌≤◌, true, false, not, ◌⊎◌, List, [], length, filter, sym, refl, ap, ◌∙◌, subst, ap₂, inl, inr, ⊎_elim, true≢false, arith}
+use Rattle.std.proofs.Common.{◌≡◌, ℕ, ◌-◌, ◌^◌, ◌<◌, ◌≤◌, false, not, ◌⊎◌, List, [], length, filter, sym, refl, ap, ◌∙◌, subst, ap₂, inl, inr, ⊎_elim, true≢false, arith}
 use Rattle.std.proofs.lemmas.Bool.{eq-eqb, false_from_ne_true, true_from_ne_false}
 use Rattle.algebra.specs.Count.{In, Exactly}
 use Rattle.algebra.proofs.Counting.{all_in, exactly_iff}
@@ -61,8 +61,11 @@ module _ (D : Deal) (group : List ℕ) (grp : Group D.figures group) where
           λ k. true≢false (sym (named_strays D group grp b h.0 past permitted buffer names (pass_under b h.0) i x
               (lies_under b h.0) k) ∙ h.1),
         ))
-        (λ b h. (h.0, false_from_ne_true _ (λ s. h.1 (strays_named D group grp b h.0 past permitted buffer names (pass_under b h.0) i x
-            (lies_under b h.0) s))))
+        (λ b h. (
+          h.0,
+          false_from_ne_true _ (λ s. h.1 (strays_named D group grp b h.0 past permitted buffer names (pass_under b h.0) i x
+              (lies_under b h.0) s)),
+        ))
         (unnamed_count D group grp i m x (lies_right codes figures (calls D c past) i x e)
         (subst (λ y. (j : ℕ) → j < figures.d → value_altered y x j ≡ false → tag_altered y x j ≡ false) same elsewhere)))
       where

@@ -1,10 +1,9 @@
 -- Tests over lists, questions, filters and the numbers of a range.
 -- Assumes nothing.
-use Rattle.std.proofs.Common.{◌≡◌, ℕ, zero, suc, ◌+◌, ◌<◌, ◌≤◌, Bool, true, false, cond, ◌&&◌, ◌||◌, ◌⊎◌, List, [], ◌∷◌, ◌++◌, map, length, take, Some, None, filter, sym, refl, ap, ◌∙◌, subst, ap₂, inl, inr, true≢false, arith}
-use mathlib.Core.Bool.{false≢true}
+use Rattle.std.proofs.Common.{◌≡◌, ℕ, zero, suc, ◌+◌, ◌<◌, ◌≤◌, Bool, true, false, cond, ◌&&◌, ◌||◌, List, [], ◌∷◌, map, length, None, filter, sym, refl, ap, ◌∙◌, subst, ap₂, inl, inr, true≢false, arith}
 use Rattle.std.specs.List.{range_with_len, AllByRecursion}
 use Rattle.std.proofs.ByRecursion.{all_kept_by, All-map}
-use Rattle.std.proofs.lemmas.Bool.{cond-true, or_left, or_right, or_cases, false_from_ne_true}
+use Rattle.std.proofs.lemmas.Bool.{cond-true, or_left, or_right, false_from_ne_true}
 use Rattle.algebra.specs.Polynomial.{Apart, Distinct}
 use Rattle.algebra.specs.Count.{In}
 use Rattle.algebra.proofs.Counting.{all_in, all_from_in}
@@ -41,7 +40,7 @@ module _ {A : Type 0} (test : A → Bool) where
   some_from (b ∷ l) a (inr k) h = or_right (test b) _ (some_from l a k h)
 
   pub some_in : (l : List A) → some test l ≡ true → (a : A) × In a l × (test a ≡ true)
-  some_in [] e = absurd (false≢true e)
+  some_in [] e = cc
   some_in (b ∷ l) e = grind (arith, some_in l)
 
   pub none_from : (l : List A) → ((a : A) → In a l → test a ≡ false) → some test l ≡ false

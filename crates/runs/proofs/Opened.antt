@@ -1,6 +1,6 @@
 -- What open finds on a table, where at each place at most t lying cards miss one given polynomial.
 -- Assumes nothing.
-use Rattle.std.proofs.Common.{◌≡◌, ℕ, suc, ◌+◌, ◌-◌, ◌*◌, ◌/◌, ◌%◌, ◌<◌, ◌≤◌, Bool, true, false, not, leb, ◌⊎◌, List, [], ◌∷◌, ◌++◌, map, length, get_or, replicate, Some, None, Ok, Err, filter, Option, sym, ap, ◌∙◌, subst, ap₂, inl, inr, true≢false, arith}
+use Rattle.std.proofs.Common.{◌≡◌, ℕ, suc, ◌+◌, ◌-◌, ◌*◌, ◌/◌, ◌%◌, ◌<◌, ◌≤◌, Bool, true, false, not, leb, List, [], ◌∷◌, ◌++◌, map, length, get_or, replicate, Some, None, Ok, Err, filter, Option, sym, ap, ◌∙◌, subst, ap₂, true≢false, arith}
 use Rattle.std.specs.List.{AllByRecursion}
 use Rattle.std.proofs.Math.Seq.{take-append_seam}
 use Rattle.std.proofs.lemmas.List.{length-map, get_or_past}
@@ -23,7 +23,7 @@ use Rattle.scheme.specs.declared.types.Pair.{Pair}
 use Rattle.scheme.proofs.Asking.{all_from_every}
 use Rattle.scheme.proofs.Enumerated.{kept_none, CodesOf, polynomials_are}
 use Rattle.runs.specs.Cards.{blank, Card, Cards, lying, is_coded_lem}
-use Rattle.runs.specs.Opening.{some, pair_at, tag_point, value_point, fitting_at, is_named, named, unnamed, value_curves, early_questions, late_questions, new_key, concluded, opened, FirstThree}
+use Rattle.runs.specs.Opening.{Opening, some, pair_at, tag_point, value_point, fitting_at, is_named, named, unnamed, value_curves, early_questions, late_questions, new_key, concluded, opened, FirstThree}
 use Rattle.runs.specs.Runs.{written}
 use Rattle.runs.proofs.Lists.{no_refusal, every_from, kept_in, apart_kept, kept_map, some_same, map_same, place_below, every_in, not_every, in_places}
 use Rattle.runs.proofs.Fits.{Plane, plane_kept, same_on, fitting_few, fitting_is, through_is}
@@ -38,6 +38,13 @@ apart_points p x inj (a ∷ l) h d = (
   All-map _ p l (all_with (λ b n pb e. n (inj b a pb h.0 e)) l d.0 h.1),
   apart_points p x inj l h.1 d.1,
 )
+
+-- what open answers and leaves where it names the numbers l: the refusal e, or, where m cards lie, the key
+abbrev pub refusing : ℕ → List ℕ → List ℕ → List ℕ → Opening
+refusing e l key names = record { answer = Err (e, length l); key = key; names = l ++ replicate (length names - length l) 0 }
+
+abbrev pub opening_to : ℕ → List ℕ → List ℕ → List ℕ → Opening
+opening_to m l key names = record { answer = Ok (m, length l); key = key; names = l ++ replicate (length names - length l) 0 }
 
 -- by a polynomial G j for each place j
 module _ (C : Codes) (u v : ℕ) (f : Figures) (G : ℕ → List ℕ) where
@@ -130,9 +137,6 @@ module _ {C : Codes} {u v : ℕ} (L : DoublableLaws C u v) (f : Figures) where
         abbrev pub clean : List (ℕ × Card)
         clean = filter (λ a. not (misses C u v f G a)) (lying cards)
 
-        abbrev pub names_then : List ℕ → List ℕ
-        names_then names = missing ++ replicate (length names - length missing) 0
-
         named_numbers : named C u v f cards ≡ missing
         named_numbers = ap (map number) (filter_agree _ _ named_is (lying cards))
 
@@ -168,24 +172,19 @@ module _ {C : Codes} {u v : ℕ} (L : DoublableLaws C u v) (f : Figures) where
 
           -- the late questions refuse with e
           refused : (e : ℕ) → first_no (late_questions C u v f cards) ≡ Some e
-              → opened C u v f cards key names ≡ record { answer = Err (e, length missing); key = key; names = names_then names }
+              → opened C u v f cards key names ≡ refusing e missing key names
           refused e late =
               ap₂ (λ o p. concluded C u v f cards o p key names) no_early late
-              ∙ ap (λ (l : List ℕ). record {
-                answer = Err (e, length l);
-                key = key;
-                names = l ++ replicate
-                    (length names - length l) 0;
-              }) named_numbers
+              ∙ ap (λ l. refusing e l key names) named_numbers
 
           pub few_clean : length clean < f.k
-              → opened C u v f cards key names ≡ record { answer = Err (36, length missing); key = key; names = names_then names }
+              → opened C u v f cards key names ≡ refusing 36 missing key names
           few_clean few = refused 36 (cond-false _ _ _ (lt-leb f.k (length (unnamed C u v f cards)) (omega (arith, ap length unnamed_is))))
 
           -- h passes through k of the clean values of place j and not through all, so that these lie on no one polynomial
           pub scattered : (j : ℕ) → j < f.d → (h : List ℕ) → CodesOf C.size f.k h → f.k ≤ length clean
               → f.k ≤ length (filter (passes C h) (map (value_point j) clean)) → every (passes C h) (map (value_point j) clean) ≡ false
-              → opened C u v f cards key names ≡ record { answer = Err (37, length missing); key = key; names = names_then names }
+              → opened C u v f cards key names ≡ refusing 37 missing key names
           scattered j l h hh many on not-all =
               refused 37 (cond-true _ _ _ (le-leb f.k (length (unnamed C u v f cards)) (omega (arith, ap length unnamed_is)))
               ∙ cond-false _ _ _ (not_every (λ j. leb 1 (length (value_curves C u v f cards j))) (places f) j (in_places f.d j l)
@@ -224,20 +223,11 @@ module _ {C : Codes} {u v : ℕ} (L : DoublableLaws C u v) (f : Figures) where
                 let s = kept_in (λ a. not (misses C u v f G a)) (lying cards) r.0 r.1 in
                 subst (λ p. passes C (F j) p ≡ true) (sym r.2) (eq-eqb _ _ (on r.0 s.0 (not-true (misses C u v f G r.0) s.1) j h))))
 
-            pub many_clean : opened C u v f cards key names ≡ record {
-              answer = Ok (length (lying cards), length missing);
-              key = map (λ j. value_at_lem C (F j) 0) (places f);
-              names = names_then names;
-            }
+            pub many_clean : opened C u v f cards key names
+                ≡ opening_to (length (lying cards)) missing (map (λ j. value_at_lem C (F j) 0) (places f)) names
             many_clean =
                 ap₂ (λ o p. concluded C u v f cards o p key names) no_early late
-                ∙ ap₂ (λ (l k : List ℕ). record {
-                  answer = Ok (length (lying cards), length l);
-                  key = k;
-                  names = l ++ replicate
-                      (length names - length l) 0;
-                })
-                named_numbers key_is
+                ∙ ap₂ (λ l k. opening_to (length (lying cards)) l k names) named_numbers key_is
               where
                 late : first_no (late_questions C u v f cards) ≡ None
                 late =

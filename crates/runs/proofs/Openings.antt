@@ -1,6 +1,6 @@
 -- The opening of one table.
 -- Assumes nothing.
-use Rattle.std.proofs.Common.{◌≡◌, ℕ, ◌+◌, ◌-◌, ◌<◌, ◌≤◌, Bool, true, false, cond, not, leb, ◌⊎◌, List, [], ◌∷◌, ◌++◌, map, length, get_or, replicate, Some, None, Ok, Err, filter, Option, Result, sym, refl, ap, ◌∙◌, subst, ap₂, inl, inr, arith}
+use Rattle.std.proofs.Common.{◌≡◌, ℕ, ◌+◌, ◌<◌, ◌≤◌, Bool, true, false, cond, not, leb, ◌⊎◌, List, [], ◌∷◌, map, length, get_or, replicate, Some, None, Ok, Err, filter, Option, Result, sym, ap, ◌∙◌, subst, ap₂, inl, inr, arith}
 use Rattle.std.specs.List.{range_with_len, AllByRecursion}
 use Rattle.std.proofs.ByRecursion.{All-weaker}
 use Rattle.std.proofs.lemmas.List.{nil_from_length}
@@ -20,7 +20,7 @@ use Rattle.runs.specs.Openings.{Settles, FittingSettles, DealtCardsOpen}
 use Rattle.runs.proofs.Lists.{every_from, not_every, not_every_in, kept_all, place_below, in_places}
 use Rattle.runs.proofs.Collected.{number, in_collect, lying_is}
 use Rattle.runs.proofs.Tables.{participant, RightCard, right_card}
-use Rattle.runs.proofs.Opened.{fitting_at_few, many_clean}
+use Rattle.runs.proofs.Opened.{opening_to, fitting_at_few, many_clean}
 use Rattle.runs.proofs.Dealt.{Sound, value_polynomials, value_polynomials_codes, key_is, dealt_deals, deals_sound, shares_dealt, card_right, card_value}
 use Rattle.runs.proofs.Likeness.{itself_unaltered}
 use Rattle.runs.proofs.Naming.{tag_right, strays, dealt_tag_right, unaltered_parts, unaltered_stays}
@@ -98,7 +98,7 @@ dealt_cards_open_lem D cards size alone buffer names first =
     (value_polynomials_codes D)
     (λ a k _ j l. sym (ap (λ x. (pair_at x j).value) (as_dealt a k) ∙ card_value D c a.0 j l))
     (subst (λ l. figures.k ≤ length l) (sym (kept_all (λ a. not (strays D c a)) (lying cards) (λ a k. ap not (stays a k)))) first.enough)
-    ∙ ap₂ (λ (l s : List ℕ). record { answer = Ok (length (lying cards), length l); key = s; names = l ++ replicate (length names - length l) 0 })
+    ∙ ap₂ (λ l s. opening_to (length (lying cards)) l s names)
     (ap (map number) (kept_none (strays D c) (lying cards) stays)) (key_is D)
     ∙ ap (λ n. record { answer = Ok (length (lying cards), 0); key = D.key; names = replicate n 0 }) (omega arith)
   where

@@ -1,11 +1,11 @@
 -- The worked example on opening, over p251: five participants, threshold four, one altered card borne, one symbol. Key 7, value
 -- coefficients 1, 0, 2 and tag coefficients 5, 3.
 -- Assumes nothing.
-use Rattle.std.proofs.Common.{◌≡◌, ℕ, zero, suc, ◌+◌, ◌-◌, ◌<◌, ◌≤◌, Bool, true, false, cond, not, ◌&&◌, ◌||◌, eqb, leb, ◌⊎◌, List, [], ◌∷◌, ◌++◌, map, length, replicate, None, Ok, Err, filter, sym, refl, ap, ◌∙◌, inl, inr, true≢false, arith, lit≤, length-append}
+use Rattle.std.proofs.Common.{◌≡◌, ℕ, zero, suc, ◌+◌, ◌<◌, ◌≤◌, Bool, true, false, not, ◌||◌, eqb, leb, ◌⊎◌, List, [], ◌∷◌, map, length, None, Ok, Err, filter, sym, refl, ap, ◌∙◌, inl, inr, true≢false, arith, lit≤, length-append}
 use Rattle.std.specs.List.{AllByRecursion}
 use Rattle.std.proofs.lemmas.List.Elements.{filter-append}
 use Rattle.std.proofs.ByRecursion.{All-weaker}
-use Rattle.std.proofs.lemmas.Bool.{leb-true, leb-false, eqb-true, eqb-false, ltb-true, or_cases, false_from_ne_true}
+use Rattle.std.proofs.lemmas.Bool.{leb-true, leb-false, eqb-true, eqb-false, ltb-true, false_from_ne_true}
 use Rattle.algebra.specs.Count.{In}
 use Rattle.fields.specs.P251.{p251}
 use Rattle.fields.specs.Doubled.{doubled, sum2, product2}
@@ -23,7 +23,7 @@ use Rattle.runs.proofs.Openings.{fitting_settles_lem}
 use Rattle.runs.proofs.Lists.{every_in}
 use Rattle.runs.proofs.Fits.{same_on, Plane}
 use Rattle.runs.proofs.Tables.{RightCard, right_card}
-use Rattle.runs.proofs.Opened.{hits, misses, few_clean, many_clean, scattered}
+use Rattle.runs.proofs.Opened.{refusing, opening_to, hits, misses, few_clean, many_clean, scattered}
 
 -- the polynomial of the tags
 abbrev tag_polynomials : ℕ → List ℕ
@@ -55,44 +55,25 @@ module _ (cards : Cards) (passing : AllByRecursion (λ (a : ℕ × Card). card_r
   clean = filter (λ a. not (strays a)) (lying cards)
 
   too_few : leb 4 (length clean) ≡ false
-      → opened p251 0 250 five cards key names ≡ record {
-        answer = Err (36, length named);
-        key = key;
-        names = named ++ replicate
-            (length names - length named) 0;
-      }
+      → opened p251 0 250 five cards key names ≡ refusing 36 named key names
   too_few few = few_clean p251_doublable five cards right (leb-true _ _ four) tag_polynomials good most key names first (leb-false _ _ few)
 
   module _ (h : List ℕ) (long : length h ≡ 4) (codes : all_codes 251 h ≡ true) (enough : leb 4 (length clean) ≡ true) where
     on_one : every (λ (a : ℕ × Card). strays a || eqb (value_at_lem p251 h a.0) (pair_at a.1 0).value) (lying cards) ≡ true
         → opened p251 0 250 five cards key names
-        ≡ record {
-          answer = Ok (length (lying cards), length named);
-          key = value_at_lem p251 h 0 ∷ [];
-          names = named ++ replicate
-              (length names - length named) 0;
-        }
+        ≡ opening_to (length (lying cards)) named (value_at_lem p251 h 0 ∷ []) names
     on_one on =
         many_clean p251_doublable five cards right (leb-true _ _ four) tag_polynomials good most key names first (λ _. h)
         (λ j l. (long, all_from_codes 251 h codes)) honest (leb-true _ _ enough)
       where
-        either : (a : ℕ × Card) → strays a ≡ false → (strays a ≡ true) ⊎ (eqb (value_at_lem p251 h a.0) (pair_at a.1 0).value ≡ true)
-            → value_at_lem p251 h a.0 ≡ (pair_at a.1 0).value
-        either a e (inl t) = absurd (true≢false (sym t ∙ e))
-        either a e (inr t) = eqb-true _ _ t
-
         honest : (a : ℕ × Card) → In a (lying cards) → strays a ≡ false → (j : ℕ) → j < 1 → value_at_lem p251 h a.0 ≡ (pair_at a.1 j).value
-        honest a k e zero l = either a e (or_cases _ _ (every_in (λ (a : ℕ × Card). strays a || eqb (value_at_lem p251 h a.0) (pair_at
-            a.1 0).value) (lying cards) a on k))
+        honest a k e zero l =
+            let on_a = every_in (λ (a : ℕ × Card). strays a || eqb (value_at_lem p251 h a.0) (pair_at a.1 0).value) (lying cards) a on k in
+            eqb-true _ _ (sym (ap (λ b. b || eqb (value_at_lem p251 h a.0) (pair_at a.1 0).value) e) ∙ on_a)
         honest a k e (suc j) l = absurd (omega arith)
 
     on_none : leb 4 (length (filter (passes p251 h) (map (value_point 0) clean))) ≡ true → every (passes p251 h) (map (value_point 0) clean) ≡ false
-        → opened p251 0 250 five cards key names ≡ record {
-          answer = Err (37, length named);
-          key = key;
-          names = named ++ replicate
-              (length names - length named) 0;
-        }
+        → opened p251 0 250 five cards key names ≡ refusing 37 named key names
     on_none some not-all =
         scattered p251_doublable five cards right (leb-true _ _ four) tag_polynomials good most key names first 0 (lit≤ tt) h
         (long, all_from_codes 251 h codes) (leb-true _ _ enough) (leb-true _ _ some) not-all

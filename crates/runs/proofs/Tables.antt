@@ -1,9 +1,8 @@
 -- The table after a run of calls holds what lies by the calls alone.
 -- Assumes nothing.
-use Rattle.std.proofs.Common.{◌≡◌, ℕ, ◌-◌, ◌≤◌, Bool, true, false, cond, not, ◌&&◌, eqb, leb, ◌⊎◌, [], ◌∷◌, ◌++◌, map, length, get_or, set, is_some, Some, None, Option, sym, refl, ap, ◌∙◌, subst, ap₂, inl, inr, true≢false, arith, length-set}
-use lib.ListN.{length-replicate, get_or-replicate}
-use Rattle.std.proofs.lemmas.List.{get_or-set_same, get_or-set_other, length-map}
-use Rattle.std.proofs.lemmas.Bool.{leb-true, le-leb, eqb-true, eq-eqb, ne_eqb, and_parts, and_right, cases_eq}
+use Rattle.std.proofs.Common.{◌≡◌, ℕ, ◌-◌, ◌≤◌, Bool, true, cond, not, ◌&&◌, eqb, leb, ◌⊎◌, [], ◌∷◌, ◌++◌, map, length, is_some, Some, None, Option, sym, refl, ap, ◌∙◌, subst, ap₂, arith, length-set}
+use Rattle.std.proofs.lemmas.List.{length-replicate, get_or-replicate, get_or-set_same, get_or-set_other, length-map}
+use Rattle.std.proofs.lemmas.Bool.{leb-true, le-leb, eqb-true, eq-eqb, and_parts}
 use Rattle.algebra.specs.Count.{In}
 use Rattle.fields.specs.Laws.{Codes}
 use Rattle.scheme.specs.Questions.{first_no, every}
@@ -12,7 +11,7 @@ use Rattle.scheme.specs.declared.types.Figures.{Figures}
 use Rattle.scheme.proofs.Acceptance.{all_yes}
 use Rattle.scheme.proofs.Enumerated.{in_counting, counting_in}
 use Rattle.runs.specs.Cards.{Card, Cards, card_of, lying, is_coded_lem, is_participant, card_questions, card_refusal, present_refusal, withdraw_refusal, settled}
-use Rattle.runs.specs.Runs.{Run, start, ◌then◌, Call, present, withdraw, seal, reopen, opens, table, present_accepted, withdraw_accepted, lies, numbers_lying}
+use Rattle.runs.specs.Runs.{Run, start, ◌then◌, Call, present, withdraw, seal, reopen, opens, table, present_accepted, lies, numbers_lying}
 use Rattle.runs.proofs.Lists.{no_refusal}
 use Rattle.runs.proofs.Collected.{number, collect, in_collect, collect_in, collect_same, numbers_collected, lying_is}
 

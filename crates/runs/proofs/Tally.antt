@@ -1,7 +1,7 @@
 -- How many choices deal the group its cards, and how many of those leave a card unnamed.
 -- Assumes nothing.
-use Rattle.std.proofs.Common.{◌≡◌, ℕ, zero, suc, ◌+◌, ◌-◌, ◌*◌, ◌^◌, ◌<◌, Bool, true, false, cond, not, List, [], ◌∷◌, map, length, get_or, filter, sym, refl, ap, ◌∙◌, subst, zero-add, mul-one, arith}
-use native.Mathlib.Nat.{pow-zero, pow-succ'}
+use Rattle.std.proofs.Common.{◌≡◌, ℕ, zero, suc, ◌+◌, ◌-◌, ◌^◌, ◌<◌, true, false, cond, not, List, [], ◌∷◌, map, length, get_or, sym, ap, ◌∙◌, subst, zero-add, arith}
+use Rattle.std.proofs.Math.Nat.{pow-zero}
 use Rattle.std.specs.List.{range_with_len, AllByRecursion}
 use Rattle.std.proofs.lemmas.List.FromFn.{length-range_with_len}
 use Rattle.std.proofs.lemmas.List.{length-map}
@@ -9,7 +9,7 @@ use Rattle.std.proofs.ByRecursion.{All-get_or, All-map, All-weaker}
 use Rattle.std.proofs.lemmas.Bool.{eqb-true, eqb-false, eq-eqb, not-true, not-false}
 use Rattle.algebra.specs.Polynomial.{Apart}
 use Rattle.algebra.specs.Count.{In, Exactly, AtEach}
-use Rattle.algebra.proofs.Counting.{all_in, all_from_in, in_self, exactly_iff, exactly_each, product_same, product_free, free, free_kept}
+use Rattle.algebra.proofs.Counting.{all_in, all_from_in, in_self, exactly_iff, exactly_each, pow_one, product_same, product_free, free, free_kept}
 use Rattle.fields.specs.Doubled.{doubled, join}
 use Rattle.fields.specs.DoubledLaws.{doubled_laws}
 use Rattle.scheme.specs.Polynomial.{value_at_lem}
@@ -19,7 +19,7 @@ use Rattle.runs.specs.Cards.{Card, is_participant}
 use Rattle.runs.specs.Opening.{pair_at}
 use Rattle.runs.specs.Runs.{value_altered, tag_altered, altered_values}
 use Rattle.runs.specs.Law.{Deal, Group, Choice, q, dealt_choice, card_under, Deals}
-use Rattle.runs.proofs.Bridge.{value_below, exactly_passing}
+use Rattle.runs.proofs.Bridge.{value_below, Passing, exactly_passing}
 use Rattle.runs.proofs.Lists.{none_from, none_in, map_same, place_below, in_places}
 use Rattle.runs.proofs.Tables.{participant, participant_high, RightCard}
 use Rattle.runs.proofs.Opened.{pair_below, point_below, point_number, point_value, apart_points}
@@ -122,20 +122,19 @@ module _ (D : Deal) (group : List ℕ) (grp : Group D.figures group) where
 
   -- ---- q polynomials at each place, one coefficient being free
 
+  -- that a polynomial of m coefficients passes through the points, in other words
+  through_keeps : (j m : ℕ) → m ≡ figures.t + 1 → (g : List ℕ) → CodesOf (q D) m g × Passing (doubled_laws laws) (map (point j) group) g → Keeps j g
+  through_keeps j m e g h =
+      ((h.0.0 ∙ e, h.0.1), all_unmap (λ (p : ℕ × ℕ). value_at_lem (doubled codes u v) g p.0 ≡ p.1) (point j) group h.1)
+
+  keeps_through : (j m : ℕ) → m ≡ figures.t + 1 → (g : List ℕ) → Keeps j g → CodesOf (q D) m g × Passing (doubled_laws laws) (map (point j) group) g
+  keeps_through j m e g h =
+      ((h.0.0 ∙ sym e, h.0.1), All-map (λ (p : ℕ × ℕ). value_at_lem (doubled codes u v) g p.0 ≡ p.1) (point j) group h.1)
+
   keeps_count : (j : ℕ) → j < figures.d → Exactly (q D) (Keeps j)
   keeps_count j l =
-      subst (λ z. Exactly z (Keeps j)) (pow-succ' (q D) 0 ∙ ap (λ z. q D * z) (pow-zero (q D)) ∙ mul-one (q D))
-      (exactly_iff
-      (λ g h. (
-        (omega (arith, h.0.0, points_length j), h.0.1),
-        all_unmap (λ (p : ℕ × ℕ). value_at_lem (doubled codes u v) g p.0 ≡ p.1)
-            (point j) group h.1,
-      ))
-      (λ g h. (
-        (omega (arith, h.0.0, points_length j), h.0.1),
-        All-map (λ (p : ℕ × ℕ). value_at_lem (doubled codes u v) g p.0 ≡ p.1)
-            (point j) group h.1,
-      ))
+      subst (λ z. Exactly z (Keeps j)) (pow_one (q D))
+      (exactly_iff (through_keeps j _ (omega (arith, points_length j))) (keeps_through j _ (omega (arith, points_length j)))
       (exactly_passing (doubled_laws laws) 1 (map (point j) group) (points_below j l) (points_apart j l)))
 
   pub choices_count : Exactly (q D ^ figures.d) (Deals D group)
@@ -193,20 +192,11 @@ module _ (D : Deal) (group : List ℕ) (grp : Group D.figures group) where
           eqb-false _ _ (not-true _ e) (sym (point_value laws figures h i _ _ below here.0 s)
           ∙ ap (value_at_lem codes (value_polynomials D j)) (point_number laws figures h i _ _ below here.0 s) ∙ sym
           (card_value D (dealt_choice D) i j l)))) in
+          let long : 0 + suc (length (map (point j) group)) ≡ figures.t + 1 = omega (arith, points_length j) in
           subst (λ w. Exactly w (Deceived j)) (pow-zero (q D))
           (exactly_iff
-          (λ g h. (
-            (
-              (omega (arith, h.0.0, points_length j), h.0.1),
-              all_unmap
-                  (λ (p : ℕ × ℕ). value_at_lem (doubled codes u v) g p.0 ≡ p.1) (point j) group h.1.1,
-            ),
-            h.1.0,
-          ))
-          (λ g h. (
-            (omega (arith, h.0.0.0, points_length j), h.0.0.1),
-            (h.1, All-map (λ (p : ℕ × ℕ). value_at_lem (doubled codes u v) g p.0 ≡ p.1) (point j) group h.0.1),
-          ))
+          (λ g h. (through_keeps j _ long g (h.0, h.1.1), h.1.0))
+          (λ g h. let r = keeps_through j _ long g h.0 in (r.0, (h.1, r.1)))
           (exactly_passing (doubled_laws laws) 0 ((z, (pair_at x j).tag) ∷ map (point j) group) ((zb, here.1), points_below j l)
           (off, points_apart j l)))
 

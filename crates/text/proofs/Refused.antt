@@ -1,20 +1,14 @@
 -- What the questions about a text settle.
 -- Assumes nothing.
-use Rattle.std.proofs.Common.{◌≡◌, ℕ, Bool, true, false, cond, List, [], ◌∷◌, Some, None, refl, ◌∙◌}
+use Rattle.std.proofs.Common.{◌≡◌, ℕ, Bool, true, List, [], ◌∷◌, None, refl, ◌∙◌, arith}
 use Rattle.std.specs.List.{AllByRecursion}
 use Rattle.std.proofs.lemmas.Bool.{cond-true}
-use Rattle.runs.proofs.Lists.{some_not_none}
 use Rattle.text.specs.Refusals.{first_fault}
 
 -- not refused: every answer is yes
 pub all_passed : (questions : List (Bool × (ℕ × ℕ))) → first_fault questions ≡ None → AllByRecursion (λ q. q.0 ≡ true) questions
 all_passed [] e = tt
-all_passed (q ∷ questions) e = by q.0 refl (λ h. all_passed questions h) e
-  where
-    by : (b : Bool) → q.0 ≡ b → (first_fault questions ≡ None → AllByRecursion (λ q. q.0 ≡ true) questions)
-        → cond b (first_fault questions) (Some q.1) ≡ None → (q.0 ≡ true) × AllByRecursion (λ q. q.0 ≡ true) questions
-    by true p rest h = (p, rest h)
-    by false p rest h = absurd (some_not_none q.1 h)
+all_passed (q ∷ questions) e = grind (arith, all_passed questions)
 
 -- every answer is yes: no refusal
 pub no_fault : (questions : List (Bool × (ℕ × ℕ))) → AllByRecursion (λ q. q.0 ≡ true) questions → first_fault questions ≡ None
