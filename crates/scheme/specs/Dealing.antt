@@ -86,3 +86,8 @@ deal_number TopCoefficient = 19
 abbrev pub deal_told : Result ℕ DealFault → Result ℕ ℕ
 deal_told (Ok count) = Ok count
 deal_told (Err e) = Err (deal_number e)
+
+-- the number of the refusal, if any, that an answer tells
+abbrev pub refusal_told : {A : Type 0} → Result A DealFault → Option ℕ
+refusal_told (Ok _) = None
+refusal_told (Err e) = Some (deal_number e)

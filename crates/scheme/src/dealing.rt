@@ -1,7 +1,6 @@
 // The call `deal`.
 ghost use Rattle.std.specs.Prelude.{◌≡◌, ◌+◌, ◌-◌, ◌*◌, ◌<◌, ◌≤◌, ◌&&◌, ◌∷◌, length, nat_lt, IfOk, IsTrue};
-ghost use Rattle.scheme.specs.Accepted.{Accepted, refusal_told};
-ghost use Rattle.scheme.specs.Dealing.{at_place, deal_number, deal_refusal, deal_told, dealing, dealt_pair, dealt_share, dealt_shares, has_top, places, tag_polynomial, value_polynomial};
+ghost use Rattle.scheme.specs.Dealing.{at_place, deal_number, deal_refusal, deal_told, dealing, dealt_pair, dealt_share, dealt_shares, has_top, places, refusal_told, tag_polynomial, value_polynomial};
 ghost use Rattle.scheme.specs.Questions.{all_codes, every};
 ghost use Rattle.std.specs.List.{AllByRecursion};
 
@@ -171,7 +170,6 @@ impl<'a, F: Doublable> Secret<'a, F> {
 
     // Fills the buffer with the shares, participant after participant: pair number `at` is for participant at / d + 1 and
     // place at % d.
-    #[tactic(auto, using(std::proofs::lemmas::List::Edits::fill_by_more))]
     fn write_shares(&self, shares: &mut [Pair])
         requires shares_len { length shares.old ≡ self.now.figures.n * self.now.figures.d }
         ensures { shares.new ≡ dealt_shares F.Field.codes F.Doublable.u F.Doublable.v self.now.figures self.now.key.now self.now.values.now self.now.tags.now }
