@@ -11,10 +11,9 @@ use Rattle.fields.specs.Doubled.{doubled, join}
 use Rattle.fields.specs.DoubledLaws.{doubled_laws}
 use Rattle.scheme.specs.Questions.{every}
 use Rattle.scheme.specs.Polynomial.{value_at_lem}
-use Rattle.scheme.specs.Accepted.{Accepted}
 use Rattle.scheme.specs.Dealing.{at_place, places, value_polynomial, tag_polynomial, dealt_pair}
 use Rattle.scheme.specs.declared.types.Pair.{Pair}
-use Rattle.scheme.proofs.Acceptance.{accepted}
+use Rattle.scheme.proofs.Acceptance.{Accepted, accepted}
 use Rattle.scheme.proofs.Enumerated.{CodesOf}
 use Rattle.runs.specs.Cards.{blank, Card, is_coded_lem, is_participant, present_refusal}
 use Rattle.runs.specs.Opening.{pair_at}

@@ -1,7 +1,7 @@
--- A loop that asks one question of each element, and stops at the first no.
+-- A question that is asked of each element of a list.
 -- Assumes nothing.
 use Rattle.std.proofs.Common.{◌≡◌, ℕ, ◌+◌, ◌<◌, ◌≤◌, Bool, true, false, ◌&&◌, ltb, List, [], ◌∷◌, length, get_or, take, drop, is_some, Some, None, Option, sym, ap, ◌∙◌, subst, MatchOption}
-use Rattle.std.specs.List.{AllByRecursion}
+use Rattle.std.specs.List.{AllByRecursion, list_all}
 use Rattle.std.proofs.lemmas.List.{at_drop_more, at_drop_all, take-append-drop}
 use Rattle.std.proofs.lemmas.List.Folds.{list_all-append}
 use Rattle.std.proofs.lemmas.Bool.{and_left, and_parts, lt-ltb, le-ltb, ltb-true}
@@ -18,11 +18,11 @@ module _ {A : Type 0} (test : A → Bool) (list : List A) (i : ℕ) (d : A) wher
   every_done h = at_drop_all (every test) list i h
 
 -- what passes throughout passes in each part
-pub every_part : {A : Type 0} (test : A → Bool) (n m : ℕ) (list : List A) → every test list ≡ true → every test (take n (drop m list)) ≡ true
-every_part test n m list e =
-    let behind = and_parts (every test (take m list)) (every test (drop m list)) (sym (list_all-append test (take m list) (drop m list)) ∙ ap (every test) (take-append-drop m list) ∙ e) in
-    let rest = drop m list in
-    (and_parts (every test (take n rest)) (every test (drop n rest)) (sym (list_all-append test (take n rest) (drop n rest)) ∙ ap (every test) (take-append-drop n rest) ∙ behind.1)).0
+pub all_part : {A : Type 0} (test : A → Bool) (n m : ℕ) (list : List A) → list_all test list ≡ true → list_all test (take n (drop m list)) ≡ true
+all_part test n m list e = (halves n (drop m list) (halves m list e).1).0
+  where
+    halves : (i : ℕ) (l : List _) → list_all test l ≡ true → (list_all test (take i l) ≡ true) × (list_all test (drop i l) ≡ true)
+    halves i l e = and_parts _ _ (sym (list_all-append test (take i l) (drop i l)) ∙ ap (list_all test) (take-append-drop i l) ∙ e)
 
 pub all_from_every : {A : Type 0} (test : A → Bool) (P : A → Type 0) → ((a : A) → test a ≡ true → P a) → (list : List A) → every test list ≡ true → AllByRecursion P list
 all_from_every test P f [] e = tt

@@ -1,10 +1,10 @@
 -- The dealing of a key of d symbols into n shares. Participants are counted from 1 and places from 0.
 -- Assumes nothing.
 use Rattle.std.specs.Prelude.{ℕ, ◌+◌, ◌-◌, ◌*◌, Bool, not, ◌&&◌, ◌||◌, List, [], ◌∷◌, map, length, take, drop, Some, None, Ok, Err, Option, Result, ◌==◌, nat_le, slice_index}
-use Rattle.std.specs.List.{range_with_len, flat_map}
+use Rattle.std.specs.List.{range_with_len, flat_map, list_all}
 use Rattle.fields.specs.Laws.{Codes}
 use Rattle.fields.specs.Doubled.{doubled, join}
-use Rattle.scheme.specs.Questions.{first_no, every, all_codes}
+use Rattle.scheme.specs.Questions.{first_no, all_codes}
 use Rattle.scheme.specs.Polynomial.{value_at_lem}
 use Rattle.scheme.specs.declared.types.Figures.{Figures}
 use Rattle.scheme.specs.declared.types.Pair.{Pair}
@@ -60,7 +60,7 @@ module _ (C : Codes) (u v : ℕ) where
         ∷ (length values == f.d * (f.k - 1) && (length tags == f.d * (f.t + 1)), 16)
         ∷ ((room == f.n * f.d), 17)
         ∷ (all_codes C.size key && (all_codes C.size values && all_codes (C.size * C.size) tags), 18)
-        ∷ (nat_le f.k 1 || every (has_top f key values) (places f), 19)
+        ∷ (nat_le f.k 1 || list_all (has_top f key values) (places f), 19)
         ∷ []
 
     abbrev pub deal_refusal : List ℕ → List ℕ → List ℕ → ℕ → Option ℕ
@@ -86,3 +86,8 @@ deal_number TopCoefficient = 19
 abbrev pub deal_told : Result ℕ DealFault → Result ℕ ℕ
 deal_told (Ok count) = Ok count
 deal_told (Err e) = Err (deal_number e)
+
+-- the number of the refusal, if any, that an answer tells
+abbrev pub refusal_told : {A : Type 0} → Result A DealFault → Option ℕ
+refusal_told (Ok _) = None
+refusal_told (Err e) = Some (deal_number e)

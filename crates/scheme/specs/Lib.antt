@@ -2,6 +2,5 @@ pub mod Questions
 pub mod Figures
 pub mod Polynomial
 pub mod Dealing
-pub mod Accepted
 pub mod Held
 pub mod Fitting

@@ -19,4 +19,4 @@ every = list_all
 
 -- every number is below the size of its field
 abbrev pub all_codes : ℕ → List ℕ → Bool
-all_codes size codes = every (λ a. nat_lt a size) codes
+all_codes size codes = list_all (λ a. nat_lt a size) codes

@@ -1,9 +1,8 @@
 // The call `deal`.
 ghost use Rattle.std.specs.Prelude.{◌≡◌, ◌+◌, ◌-◌, ◌*◌, ◌<◌, ◌≤◌, ◌&&◌, ◌∷◌, length, nat_lt, IfOk, IsTrue};
-ghost use Rattle.scheme.specs.Accepted.{Accepted, refusal_told};
-ghost use Rattle.scheme.specs.Dealing.{at_place, deal_number, deal_refusal, deal_told, dealing, dealt_pair, dealt_share, dealt_shares, has_top, places, tag_polynomial, value_polynomial};
-ghost use Rattle.scheme.specs.Questions.{all_codes, every};
-ghost use Rattle.std.specs.List.{AllByRecursion};
+ghost use Rattle.scheme.specs.Dealing.{at_place, deal_number, deal_refusal, deal_told, dealing, dealt_pair, dealt_share, dealt_shares, has_top, places, refusal_told, tag_polynomial, value_polynomial};
+ghost use Rattle.scheme.specs.Questions.{all_codes};
+ghost use Rattle.std.specs.List.{list_all};
 
 use crate::polynomial::{element, evaluate};
 use crate::types::{DealFault, Figures, Pair};
@@ -107,7 +106,9 @@ impl<'a, F: Doublable> Secret<'a, F> {
         if key.len() != figures.d {
             return Err(DealFault::KeySymbols);
         }
-        if values.len() != figures.value_coefficients() || tags.len() != figures.tag_coefficients() {
+        if values.len() != figures.value_coefficients()
+            || tags.len() != figures.tag_coefficients()
+        {
             return Err(DealFault::Coefficients);
         }
         if room != figures.pairs() {
@@ -139,25 +140,26 @@ impl<'a, F: Doublable> Secret<'a, F> {
         of_place[self.figures.k - 2] != 0
     }
 
-    // Whether the highest value coefficient of every place is.
+    // Whether it is so at every place.
     fn have_tops(&self) -> bool
         requires { 2 ≤ self.now.figures.k }
-        ensures { result ≡ every (has_top self.now.figures self.now.key.now self.now.values.now) (places self.now.figures) }
+        ensures { result ≡ list_all (has_top self.now.figures self.now.key.now self.now.values.now) (places self.now.figures) }
     {
         (0..self.figures.d).all(|j| self.has_top(j))
     }
 
     // What participant i holds for place j.
-    #[tactic(auto, using(crate::proofs::Asking::every_part))]
+    #[tactic(auto, using(crate::proofs::Asking::all_part))]
     fn pair(&self, i: u64, j: usize) -> Pair
         requires i_in { i < F.Field.codes.size }
         requires j_in { j < self.now.figures.d }
         ensures { result ≡ dealt_pair F.Field.codes F.Doublable.u F.Doublable.v (value_polynomial self.now.figures self.now.key.now self.now.values.now j) (tag_polynomial self.now.figures self.now.tags.now j) i }
     {
         let x = element::<F>(i);
+        let symbol = element::<F>(self.key[j]);
         let values = coefficients_at(self.values, self.figures.k - 1, j);
         let tags = coefficients_at(self.tags, self.figures.t + 1, j);
-        let value = F::add(element::<F>(self.key[j]), F::mul(x, evaluate::<F>(values, x)));
+        let value = F::add(symbol, F::mul(x, evaluate::<F>(values, x)));
         let point = Twice {
             low: value,
             high: x,
@@ -171,7 +173,6 @@ impl<'a, F: Doublable> Secret<'a, F> {
 
     // Fills the buffer with the shares, participant after participant: pair number `at` is for participant at / d + 1 and
     // place at % d.
-    #[tactic(auto, using(std::proofs::lemmas::List::Edits::fill_by_more))]
     fn write_shares(&self, shares: &mut [Pair])
         requires shares_len { length shares.old ≡ self.now.figures.n * self.now.figures.d }
         ensures { shares.new ≡ dealt_shares F.Field.codes F.Doublable.u F.Doublable.v self.now.figures self.now.key.now self.now.values.now self.now.tags.now }

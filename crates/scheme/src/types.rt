@@ -51,7 +51,7 @@ pub enum DealFault {
 }
 
 // A point of the plane over a field: a polynomial passes through it where its value at x is y.
-#[derive(Clone, Copy)]
+#[derive(Clone, Copy, PartialEq, Eq, Debug)]
 pub struct Point<E> {
     pub x: E,
     pub y: E,
