@@ -1,103 +1,86 @@
--- Steps of loops that compute a value, b + (X - a)·f and f + c·r in place, one coefficient at a time. Each lemma takes what holds before
--- the turn at the coefficient i to what holds after it; s is the list as it stands, s₀ the list as it stood before the loop.
+-- A value by a fold, and turns of loops that compute b + (X - a)·f and f + c·g in place, one coefficient at a time.
 -- Assumes nothing.
-use Rattle.std.proofs.Common.{◌≡◌, ℕ, ◌+◌, ◌-◌, ◌<◌, ◌≤◌, max, List, [], ◌∷◌, ◌++◌, length, get_or, take, drop, set, sym, refl, ap, ◌∙◌, append_assoc, add-zero, arith, get_or-drop, get_or-take, drop-drop, drop-set-lt}
-use Rattle.std.proofs.Math.Nat.{max-eq_left, max-eq_right}
-use Rattle.std.proofs.Math.Seq.{take-set-lt}
-use Rattle.std.proofs.lemmas.List.{drop_more, drop_all, take_more, take_more_set, length-take-le}
+use Rattle.std.proofs.Common.{◌≡◌, ℕ, ◌+◌, ◌<◌, ◌≤◌, ◌⊎◌, List, [], ◌∷◌, ◌++◌, length, get_or, take, drop, set, reverse, sym, refl, ap, ◌∙◌, ap₂, append_assoc, ⊎_elim, arith, drop-set-lt}
+use Rattle.std.specs.List.{fold}
+use Rattle.std.proofs.lemmas.Bool.{cases_lt}
+use Rattle.std.proofs.lemmas.List.Sums.{fold-append}
+use Rattle.std.proofs.lemmas.List.{drop_more, drop_all, take_all, take_more, take_more_set, length-take-le, reverse-append}
 use Rattle.algebra.specs.Field.{Field}
 use Rattle.algebra.specs.Polynomial.{eval, plus, scale, lin, times_root}
-use Rattle.algebra.proofs.Unique.{length_scale}
-
--- a write at i leaves what stands after it
-pub tail_more : {K : Type 0} (s s₀ : List K) (i : ℕ) (v : K) → drop i s ≡ drop i s₀ → drop (i + 1) (set s i v) ≡ drop (i + 1) s₀
-tail_more s s₀ i v tail = cc (drop-set-lt (i + 1) s i v (omega arith), drop-drop 1 i s, drop-drop 1 i s₀)
+use Rattle.algebra.proofs.Unique.{length_plus_left, length_plus_right, length_scale}
 
 module _ {K : Type 0} (X : Field K) where
-  open X use {zero as 𝟘, add as ◌⊕◌, mul as ◌⊗◌, neg as ⊖◌}
+  open X use {add as ◌⊕◌, mul as ◌⊗◌, neg as ⊖◌}
 
   infixl 65 ◌⊕◌
   infixl 70 ◌⊗◌
   infix 80 ⊖◌
+  -- the value of f at x, from the last coefficient to the first
+  pub fold_is_value : (f : List K) (x z : K) → z ≡ X.zero → fold (λ value c. c ⊕ x ⊗ value) z (reverse f) ≡ eval X f x
+  fold_is_value [] x z e = e
+  fold_is_value (c ∷ f) x z e =
+      ap (fold (λ value c. c ⊕ x ⊗ value) z) (reverse-append (c ∷ []) f) ∙ fold-append (λ value c. c ⊕ x ⊗ value) z (reverse f) (c ∷ [])
+      ∙ ap (λ value. c ⊕ x ⊗ value) (fold_is_value f x z e)
+
+  -- b + (X - a)·f: v is written over the coefficient c of f, and p is the coefficient before c, at first b
+  pub lin_more : (f : List K) (i : ℕ) (a p c v : K) → i < length f → c ≡ get_or f i c → v ≡ p ⊕ ⊖ (a ⊗ c)
+      → take (i + 1) (set f i v) ++ lin X a c (drop (i + 1) (set f i v)) ≡ take i f ++ lin X a p (drop i f)
+  lin_more f i a p c v h is vis =
+      ap₂ (λ l r. l ++ lin X a c r) (take_more_set f i v h) (drop-set-lt (i + 1) f i v (omega arith))
+      ∙ append_assoc (take i f) (v ∷ []) (lin X a c (drop (i + 1) f))
+      ∙ ap (λ z. take i f ++ z ∷ lin X a c (drop (i + 1) f)) vis
+      ∙ sym (ap (λ z. take i f ++ lin X a p z) (drop_more f i c h ∙ ap (λ z. z ∷ drop (i + 1) f) (sym is)))
+
+  -- all are written over, and the last coefficient stays to be written
+  pub lin_all : (f : List K) (i : ℕ) (a p : K) → length f ≤ i → f ++ p ∷ [] ≡ take i f ++ lin X a p (drop i f)
+  lin_all f i a p h = sym (ap₂ (λ l r. l ++ lin X a p r) (take_all i f h) (drop_all i f h))
+
+  -- (X - z)·f as b + (X - z)·f with b = 0
+  pub times_root_is : (z b : K) (f : List K) → 0 < length f → b ≡ X.zero → lin X z b f ≡ times_root X z f
+  times_root_is z b [] l e = absurd (omega arith)
+  times_root_is z b (c ∷ f) l e = ap (λ w. lin X z w (c ∷ f)) e
+
   pub plus_nil : (f : List K) → plus X f [] ≡ f
   plus_nil [] = refl
   plus_nil (c ∷ f) = refl
 
-  -- a further coefficient d at the end of a polynomial, after a multiplication and in a sum with a longer polynomial
-  pub scale_push : (k : K) (f : List K) (d : K) → scale X k (f ++ d ∷ []) ≡ scale X k f ++ k ⊗ d ∷ []
+  scale_push : (k : K) (f : List K) (d : K) → scale X k (f ++ d ∷ []) ≡ scale X k f ++ k ⊗ d ∷ []
   scale_push k [] d = refl
   scale_push k (c ∷ f) d = ap (λ z. k ⊗ c ∷ z) (scale_push k f d)
 
-  pub plus_push : (f g : List K) (d z : K) → length g < length f
+  -- a further coefficient in a sum with a longer polynomial, and in one with a polynomial that is no longer
+  plus_push : (f g : List K) (d z : K) → length g < length f
       → plus X f (g ++ d ∷ []) ≡ set (plus X f g) (length g) (get_or (plus X f g) (length g) z ⊕ d)
   plus_push [] g d z l = absurd (omega arith)
   plus_push (c ∷ f) [] d z l = ap (λ w. (c ⊕ d) ∷ w) (plus_nil f)
   plus_push (c ∷ f) (e ∷ g) d z l = ap (λ w. (c ⊕ e) ∷ w) (plus_push f g d z (omega arith))
 
-  -- the value, from the last coefficient to the first: r is the value of the coefficients from i on, c the coefficient before
-  pub eval_more : (f : List K) (i : ℕ) (x r c : K) → 0 < i → i ≤ length f → c ≡ get_or f (i - 1) c → r ≡ eval X (drop i f) x
-      → c ⊕ x ⊗ r ≡ eval X (drop (i - 1) f) x
-  eval_more f i x r c pos le is h =
-      let e : i - 1 + 1 ≡ i = omega arith in
-      cc (drop_more f (i - 1) c (omega arith))
-
-  -- b + (X - a)·f, from the first coefficient to the last: the list begins with f, n coefficients, and p is the coefficient of f
-  -- that was overwritten last; at first b
-  pub lin_more : (f s s₀ : List K) (n i : ℕ) (a b p c v : K) → i < n → n < length s₀ → length s ≡ length s₀
-      → c ≡ get_or s i c → v ≡ p ⊕ ⊖ (a ⊗ c) → drop i s ≡ drop i s₀
-      → lin X a b f ≡ take i s ++ lin X a p (drop i (take n s₀))
-      → lin X a b f ≡ take (i + 1) (set s i v) ++ lin X a c (drop (i + 1) (take n s₀))
-  lin_more f s s₀ n i a b p c v lt le same is vis tail h =
-      let at : get_or (take n s₀) i c ≡ c = cc (get_or-take n s₀ i c lt, get_or-drop i s₀ 0 c, get_or-drop i s 0 c, add-zero i) in
-      let next = drop_more (take n s₀) i c (omega (arith, length-take-le n s₀ (omega arith))) in
-      cc (append_assoc (take i s) (v ∷ []) (lin X a c (drop (i + 1) (take n s₀))), take_more_set s i v (omega arith))
-
-  -- the last turn writes the further coefficient
-  pub lin_done : (f s s₀ : List K) (n i : ℕ) (a b p : K) → i ≡ n → n < length s₀ → length s ≡ length s₀
-      → lin X a b f ≡ take i s ++ lin X a p (drop i (take n s₀)) → take (n + 1) (set s n p) ≡ lin X a b f
-  lin_done f s s₀ n i a b p e le same h =
-      let none : drop n (take n s₀) ≡ [] = drop_all n (take n s₀) (omega (arith, length-take-le n s₀ (omega arith))) in
-      cc (take_more_set s n p (omega arith))
-
-  -- a further coefficient in a sum with a shorter polynomial
   plus_past : (f g : List K) (d : K) → length f ≤ length g → plus X f (g ++ d ∷ []) ≡ plus X f g ++ d ∷ []
   plus_past [] g d l = refl
   plus_past (c ∷ f) [] d l = absurd (omega arith)
   plus_past (c ∷ f) (e ∷ g) d l = ap (λ z. (c ⊕ e) ∷ z) (plus_past f g d (omega arith))
 
-  -- c·r, one coefficient of r further
-  scaled_more : (r : List K) (i : ℕ) (c b : K) → i < length r → b ≡ get_or r i b
-      → scale X c (take (i + 1) r) ≡ scale X c (take i r) ++ c ⊗ b ∷ []
-  scaled_more r i c b lt is = ap (scale X c) (take_more r i b lt ∙ ap (λ z. take i r ++ z ∷ []) (sym is)) ∙ scale_push c (take i r) b
+  -- f + c·g, where p has the first i coefficients of g: b is the next one
+  module _ (f g p : List K) (i : ℕ) (c b : K) (lt : i < length g) (is : b ≡ get_or g i b) (h : p ≡ plus X f (scale X c (take i g))) where
+    abbrev s : List K
+    s = scale X c (take i g)
 
-  long : (r : List K) (i : ℕ) (c : K) → i ≤ length r → length (scale X c (take i r)) ≡ i
-  long r i c le = length_scale X c (take i r) ∙ length-take-le i r le
+    long : length s ≡ i
+    long = length_scale X c (take i g) ∙ length-take-le i g (omega arith)
 
-  -- f + c·r, where f has n coefficients: the turn at the coefficient b of r changes a coefficient of f, or writes one past them
-  module _ (f s r : List K) (n i : ℕ) (c b : K) (lf : length f ≡ n) (ls : length r ≤ length s)
-      (lt : i < length r) (is : b ≡ get_or r i b) (h : take (max n i) s ≡ plus X f (scale X c (take i r))) where
-    pub added_within : (a : K) → i < n → a ≡ get_or s i a → take (max n (i + 1)) (set s i (a ⊕ c ⊗ b)) ≡ plus X f (scale X c (take (i + 1) r))
-    added_within a below at =
-        let g = scale X c (take i r) in
-        let lg : length g ≡ i = long r i c (omega arith) in
-        let before : max n i ≡ n = max-eq_left (omega arith) in
-        let after : max n (i + 1) ≡ n = max-eq_left (omega arith) in
-        cc (
-          take-set-lt n s i (a ⊕ c ⊗ b) below,
-          get_or-take n s i a below,
-          plus_push f g (c ⊗ b) a (omega arith),
-          scaled_more r i c b lt is,
-        )
+    more : plus X f (scale X c (take (i + 1) g)) ≡ plus X f (s ++ c ⊗ b ∷ [])
+    more = ap (λ z. plus X f (scale X c z)) (take_more g i b lt ∙ ap (λ z. take i g ++ z ∷ []) (sym is)) ∙ ap (plus X f) (scale_push c (take i g) b)
 
-    pub added_past : n ≤ i → take (max n (i + 1)) (set s i (c ⊗ b)) ≡ plus X f (scale X c (take (i + 1) r))
+    -- p has a coefficient a at i
+    pub added_within : (a : K) → i < length p → a ≡ get_or p i a → set p i (a ⊕ c ⊗ b) ≡ plus X f (scale X c (take (i + 1) g))
+    added_within a within at =
+        let below : length s < length f = ⊎_elim (λ l. l) (λ l. absurd (omega (arith, ap length h, long, length_plus_right X f s l))) (cases_lt (length s) (length f)) in
+        let here : get_or (plus X f s) (length s) a ≡ a = ap₂ (λ z k. get_or z k a) (sym h) long ∙ sym at in
+        ap₂ (λ z k. set z k (a ⊕ c ⊗ b)) h (sym long) ∙ ap (λ z. set (plus X f s) (length s) (z ⊕ c ⊗ b)) (sym here)
+        ∙ sym (more ∙ plus_push f s (c ⊗ b) a below)
+
+    -- p has none
+    pub added_past : length p ≤ i → p ++ c ⊗ b ∷ [] ≡ plus X f (scale X c (take (i + 1) g))
     added_past past =
-        let g = scale X c (take i r) in
-        let lg : length g ≡ i = long r i c (omega arith) in
-        let before : max n i ≡ i = max-eq_right past in
-        let after : max n (i + 1) ≡ i + 1 = max-eq_right (omega arith) in
-        cc (take_more_set s i (c ⊗ b) (omega arith), plus_past f g (c ⊗ b) (omega arith), scaled_more r i c b lt is)
-
-  -- (X - z)·f as b + (X - z)·f with b = 0
-  pub times_root_is : (z o : K) (f : List K) → 0 < length f → o ≡ 𝟘 → lin X z o f ≡ times_root X z f
-  times_root_is z o [] l e = absurd (omega arith)
-  times_root_is z o (c ∷ f) l e = ap (λ w. lin X z w (c ∷ f)) e
+        let short : length f ≤ length s = ⊎_elim (λ l. absurd (omega (arith, ap length h, long, length_plus_left X f s (omega arith)))) (λ l. l) (cases_lt (length s) (length f)) in
+        ap (λ z. z ++ c ⊗ b ∷ []) h ∙ sym (more ∙ plus_past f s (c ⊗ b) short)

@@ -95,6 +95,10 @@ module _ {E : Type 0} {C : Codes} {code : E → ℕ} (L : FieldLaws E C code) wh
       ap (λ v. C.sum (code c) (C.product (code x) v)) (value_code f x)
       ∙ sym (add_code L c (X.mul x (eval X f x)) ∙ ap (C.sum (code c)) (mul_code L x (eval X f x)))
 
+  -- an element with the code of the value is the value
+  pub value_is : (f : List E) (x r : E) → code r ≡ value_at_lem C (map code f) (code x) → r ≡ eval X f x
+  value_is f x r e = L.code_injective _ _ (e ∙ value_code f x)
+
   codes_below : (f : List E) → AllByRecursion (λ a. a < C.size) (map code f)
   codes_below [] = tt
   codes_below (c ∷ f) = (L.code_below c, codes_below f)

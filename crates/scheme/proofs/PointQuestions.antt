@@ -1,17 +1,40 @@
 -- The questions about points, and what they settle.
 -- Assumes nothing.
-use Rattle.std.proofs.Common.{◌≡◌, ℕ, ◌<◌, ◌≤◌, Bool, true, false, cond, ◌&&◌, leb, List, [], ◌∷◌, map, length, Some, None, Option, sym, refl, ap, ap₂, arith}
+use Rattle.std.proofs.Common.{◌≡◌, ℕ, suc, ◌≤◌, Bool, true, false, cond, ◌&&◌, leb, List, [], ◌∷◌, map, length, filter, Some, None, Option, sym, refl, ap, ◌∙◌, ap₂, arith}
 use Rattle.std.proofs.lemmas.List.{length-map}
-use Rattle.std.proofs.lemmas.Bool.{le-leb, lt-leb, leb-true, and_from, and_left, and_right, and_parts}
+use Rattle.std.proofs.lemmas.Simd.{map-map}
+use Rattle.std.proofs.lemmas.Bool.{leb-true, and_parts}
+use Rattle.std.specs.List.{list_all}
+use Rattle.scheme.specs.Questions.{every}
 use Rattle.scheme.specs.Fitting.{distinct, points_refusal}
 use Rattle.scheme.specs.Held.{point_codes}
 use Rattle.scheme.specs.declared.types.Point.{Point}
 use Rattle.scheme.specs.declared.types.PointsFault.{PointsFault}
 use Rattle.scheme.specs.declared.types.PointsFault.TheVariants.{Count, Repeated}
 
-pub abscissa_codes : {E : Type 0} (code : E → ℕ) (points : List (Point E)) → map (λ (p : ℕ × ℕ). p.0) (point_codes code points) ≡ map (λ (p : Point E). code p.x) points
-abscissa_codes code [] = refl
-abscissa_codes code (p ∷ points) = ap (λ l. code p.x ∷ l) (abscissa_codes code points)
+-- a test of what is told of each element
+pub every_told : {A : Type 0} (test : ℕ → Bool) (f : A → ℕ) (list : List A) → list_all (λ a. test (f a)) list ≡ every test (map f list)
+every_told test f [] = refl
+every_told test f (a ∷ list) = ap (λ b. test (f a) && b) (every_told test f list)
+
+-- how many pass a test of what is told of each
+pub kept_told : {A B : Type 0} (test : B → Bool) (f : A → B) (list : List A) → length (filter (λ a. test (f a)) list) ≡ length (filter test (map f list))
+kept_told test f [] = refl
+kept_told test f (a ∷ list) = by (test (f a)) (kept_told test f list)
+  where
+    by : (b : Bool) → length (filter (λ a. test (f a)) list) ≡ length (filter test (map f list))
+        → length (cond b (a ∷ filter (λ a. test (f a)) list) (filter (λ a. test (f a)) list)) ≡ length (cond b (f a ∷ filter test (map f list)) (filter test (map f list)))
+    by true e = ap suc e
+    by false e = e
+
+-- what the two tests answer
+pub told : {E : Type 0} (code : E → ℕ) (points : List (Point E)) (least : ℕ) (enough apart : Bool)
+    → (leb least (length points) && leb (length points) 32) ≡ enough → distinct (map (λ p. code p.x) points) ≡ apart
+    → points_refusal (point_codes code points) least ≡ cond enough (cond apart None (Some Repeated)) (Some Count)
+told code points least enough apart count codes =
+    ap₂ (λ (a b : Bool). cond a (cond b None (Some Repeated)) (Some Count))
+    (ap (λ n. leb least n && leb n 32) (length-map points (λ (p : Point _). (code p.x, code p.y))) ∙ count)
+    (ap distinct (map-map (λ (p : ℕ × ℕ). p.0) (λ (p : Point _). (code p.x, code p.y)) points) ∙ codes)
 
 module _ (points : List (ℕ × ℕ)) (least : ℕ) where
   abbrev enough : Bool
@@ -19,19 +42,6 @@ module _ (points : List (ℕ × ℕ)) (least : ℕ) where
 
   abbrev apart : Bool
   apart = distinct (map (λ p. p.0) points)
-
-  -- the answer by the two tests
-  told : (a b : Bool) → enough ≡ a → apart ≡ b → points_refusal points least ≡ cond a (cond b None (Some Repeated)) (Some Count)
-  told a b ea eb = ap₂ (λ (a b : Bool). cond a (cond b None (Some Repeated)) (Some Count)) ea eb
-
-  pub too_few : length points < least → points_refusal points least ≡ Some Count
-  too_few h = told false apart (and_left _ _ (lt-leb least (length points) h)) refl
-
-  pub too_many : 32 < length points → points_refusal points least ≡ Some Count
-  too_many h = told false apart (and_right (leb least (length points)) _ (lt-leb (length points) 32 h)) refl
-
-  pub within : least ≤ length points → length points ≤ 32 → (b : Bool) → apart ≡ b → points_refusal points least ≡ cond b None (Some Repeated)
-  within l h b e = told true b (and_from _ _ (le-leb _ _ l) (le-leb _ _ h)) e
 
   pub record Settled : Type 0 where
     pub at_least : least ≤ length points

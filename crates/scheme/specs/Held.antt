@@ -1,6 +1,6 @@
--- What the structs of polynomials hold, as the algebra has it.
+-- What the structs of polynomials hold, as the algebra has it. A polynomial is the list of its coefficients.
 -- Assumes nothing.
-use Rattle.std.specs.Prelude.{ℕ, ◌<◌, List, map, take, Some, None, Ok, Err, Option, Result}
+use Rattle.std.specs.Prelude.{ℕ, ◌<◌, List, map, length, Some, None, Ok, Err, Option, Result}
 use Rattle.algebra.specs.Field.{Field}
 use Rattle.algebra.specs.Decoder as algebra
 use Rattle.scheme.specs.declared.held.Polynomial.{Polynomial}
@@ -10,9 +10,6 @@ use Rattle.scheme.specs.declared.types.Point.{Point}
 use Rattle.scheme.specs.declared.types.PointsFault.{PointsFault}
 
 module _ {E : Type 0} where
-  abbrev pub coefficients : Polynomial E → List E
-  coefficients p = take p.len p.coeffs
-
   abbrev pub abscissae : List (Point E) → List E
   abscissae points = map (λ p. p.x) points
 
@@ -25,7 +22,7 @@ module _ {E : Type 0} where
 
   -- what an answer tells: a polynomial by the codes of its coefficients
   abbrev pub polynomial_told : (E → ℕ) → Polynomial E → List ℕ
-  polynomial_told code p = map code (coefficients p)
+  polynomial_told code p = map code p
 
   abbrev pub option_told : (E → ℕ) → Option (Polynomial E) → Option (List ℕ)
   option_told code None = None
@@ -44,14 +41,14 @@ module _ {E : Type 0} where
   value_told code (Err e) = Err e
 
   abbrev pub ratio : (X : Field E) → Ratio E → algebra.Ratio X
-  ratio X r = record { top = coefficients r.top; bottom = coefficients r.bottom }
+  ratio X r = record { top = r.top; bottom = r.bottom }
 
   abbrev pub state : (X : Field E) → State E → algebra.State X
   state X s = record { first = ratio X s.first; second = ratio X s.second }
 
   -- each polynomial has fewer than n coefficients
   abbrev pub Shorter : ℕ → State E → Type 0
-  Shorter n s = (s.first.top.len < n) × (s.first.bottom.len < n) × (s.second.top.len < n) × (s.second.bottom.len < n)
+  Shorter n s = (length s.first.top < n) × (length s.first.bottom < n) × (length s.second.top < n) × (length s.second.bottom < n)
 
 -- the refusal that an answer tells, if any
 abbrev pub refusal_of : Result (Unit {0}) PointsFault → Option PointsFault

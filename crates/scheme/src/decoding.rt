@@ -1,38 +1,34 @@
 // Interpolation and decoding with errors, over any field and without a heap.
-ghost use Rattle.std.specs.Prelude.{◌≡◌, ◌+◌, ◌*◌, ◌<◌, ◌≤◌, [], ◌∷◌, length};
+ghost use Rattle.std.specs.Prelude.{◌≡◌, ◌+◌, ◌*◌, ◌<◌, ◌≤◌, [], ◌∷◌, length, if◌then◌else◌, nat_le};
 ghost use Rattle.algebra.specs.Decoder.{add_multiple_lem as addedMultiple, answer, collected, down, extended, offered, place, raise as raised, run as run_of, start as start_of, step as step_of};
 ghost use Rattle.fields.specs.Elements.{Over};
-ghost use Rattle.scheme.specs.Held.{Shorter, abscissae, coefficients, ordinates, polynomial_told, ratio, state};
+ghost use Rattle.scheme.specs.Held.{Shorter, abscissae, ordinates, polynomial_told, ratio, state};
 ghost use Rattle.scheme.specs.Polynomial.{value_at_lem};
 
-use crate::arithmetic::{add_multiple, is_zero, multiply_root, value, value_at};
+use crate::arithmetic::{add_multiple, is_zero, multiply_root, value_at};
 use crate::held::{Polynomial, Ratio, State};
 use crate::types::Point;
 use fields::Field;
 
 // The polynomial 0.
 fn nothing<F: Field>() -> Polynomial<F::Elem>
-    ensures { coefficients result ≡ [] }
+    ensures { result ≡ [] }
 {
-    Polynomial {
-        coeffs: [F::zero(); 64],
-        len: 0,
-    }
+    Polynomial::empty(F::zero())
 }
 
 // The polynomial 1.
 pub(crate) fn unit<F: Field>() -> Polynomial<F::Elem>
-    ensures { Over F.codes F.code (λ X. coefficients result ≡ X.one ∷ []) }
+    ensures { Over F.codes F.code (λ X. result ≡ X.one ∷ []) }
 {
-    Polynomial {
-        coeffs: [F::one(); 64],
-        len: 1,
-    }
+    let mut p = nothing::<F>();
+    p.push(F::one());
+    p
 }
 
 // Both parts times (X - z).
 fn raise<F: Field>(r: &mut Ratio<F::Elem>, z: F::Elem)
-    requires { (r.old.top.len < 64) × (r.old.bottom.len < 64) }
+    requires { (length r.old.top < 64) × (length r.old.bottom < 64) }
     ensures { Over F.codes F.code (λ X. ratio X r.new ≡ raised X z (ratio X r.old)) }
 {
     multiply_root::<F>(&mut r.top, z);
@@ -47,32 +43,32 @@ fn combine<F: Field>(r: &mut Ratio<F::Elem>, c: F::Elem, other: &Ratio<F::Elem>)
     add_multiple::<F>(&mut r.bottom, c, &other.bottom);
 }
 
-// How far top is from y·bottom at x.
-fn discrepancy<F: Field>(r: &Ratio<F::Elem>, x: F::Elem, y: F::Elem) -> F::Elem
-    ensures { F.code result ≡ F.codes.sum (value_at_lem F.codes (polynomial_told F.code r.now.top) (F.code x)) (F.codes.negative (F.codes.product (F.code y) (value_at_lem F.codes (polynomial_told F.code r.now.bottom) (F.code x)))) }
+// How far top is from y·bottom at the point (x, y).
+fn discrepancy<F: Field>(r: &Ratio<F::Elem>, p: Point<F::Elem>) -> F::Elem
+    ensures { F.code result ≡ F.codes.sum (value_at_lem F.codes (polynomial_told F.code r.now.top) (F.code p.x)) (F.codes.negative (F.codes.product (F.code p.y) (value_at_lem F.codes (polynomial_told F.code r.now.bottom) (F.code p.x)))) }
 {
-    let top = value_at::<F>(&r.top, x);
-    let bottom = value_at::<F>(&r.bottom, x);
-    F::add(top, F::neg(F::mul(y, bottom)))
+    let top = value_at::<F>(&r.top, p.x);
+    let bottom = value_at::<F>(&r.bottom, p.x);
+    F::add(top, F::neg(F::mul(p.y, bottom)))
 }
 
 // Takes one more point in: both discrepancies become zero there.
-fn step<F: Field>(s: &mut State<F::Elem>, x: F::Elem, y: F::Elem, t: usize)
+fn step<F: Field>(s: &mut State<F::Elem>, p: Point<F::Elem>, t: usize)
     requires { (Shorter 64 s.old) × (t ≤ 64) }
-    ensures { Over F.codes F.code (λ X. state X s.new ≡ step_of X {I = Unit {0}} (λ _. x) (λ _. y) t (state X s.old) tt) }
+    ensures { Over F.codes F.code (λ X. state X s.new ≡ step_of X {I = Unit {0}} (λ _. p.x) (λ _. p.y) t (state X s.old) tt) }
 {
-    let da = discrepancy::<F>(&s.first, x, y);
-    let db = discrepancy::<F>(&s.second, x, y);
+    let da = discrepancy::<F>(&s.first, p);
+    let db = discrepancy::<F>(&s.second, p);
     if is_zero::<F>(da) {
-        raise::<F>(&mut s.second, x);
+        raise::<F>(&mut s.second, p.x);
     } else if is_zero::<F>(db) {
-        raise::<F>(&mut s.first, x);
-    } else if s.first.top.len < s.second.bottom.len + t {
+        raise::<F>(&mut s.first, p.x);
+    } else if s.first.top.len() < s.second.bottom.len() + t {
         combine::<F>(&mut s.second, F::neg(F::mul(db, F::inv(da))), &s.first);
-        raise::<F>(&mut s.first, x);
+        raise::<F>(&mut s.first, p.x);
     } else {
         combine::<F>(&mut s.first, F::neg(F::mul(da, F::inv(db))), &s.second);
-        raise::<F>(&mut s.second, x);
+        raise::<F>(&mut s.second, p.x);
     }
 }
 
@@ -92,82 +88,77 @@ fn start<F: Field>() -> State<F::Elem>
     }
 }
 
-// Takes in the first n points.
-fn run<F: Field>(points: &[Point<F::Elem>], n: usize, t: usize) -> State<F::Elem>
-    requires { (n ≤ length points.now) × ((n < 63) × (t ≤ 64)) }
-    ensures { Over F.codes F.code (λ X. state X result ≡ run_of X (place X (abscissae points.now)) (place X (ordinates points.now)) t (down n)) }
+// Takes in the points, one after the other.
+fn run<F: Field>(points: &[Point<F::Elem>], t: usize) -> State<F::Elem>
+    requires { (length points.now < 63) × (t ≤ 64) }
+    ensures { Over F.codes F.code (λ X. state X result ≡ run_of X (place X (abscissae points.now)) (place X (ordinates points.now)) t (down (length points.now))) }
 {
     let mut s = start::<F>();
-    for i in 0..n {
-        let p = points[i];
-        step::<F>(&mut s, p.x, p.y, t);
+    for p in points {
+        step::<F>(&mut s, *p, t);
     }
     s
 }
 
 // Lets top pass through one more point, and bottom be zero there too.
-fn extend<F: Field>(r: &mut Ratio<F::Elem>, x: F::Elem, y: F::Elem)
-    requires { r.old.bottom.len < 64 }
-    ensures { Over F.codes F.code (λ X. ratio X r.new ≡ extended X (ratio X r.old) x y) }
+fn extend<F: Field>(r: &mut Ratio<F::Elem>, p: Point<F::Elem>)
+    requires { length r.old.bottom < 64 }
+    ensures { Over F.codes F.code (λ X. ratio X r.new ≡ extended X (ratio X r.old) p.x p.y) }
 {
-    let here = value::<F>(&r.top, x);
-    let other = value::<F>(&r.bottom, x);
-    let c = F::mul(F::add(y, F::neg(here)), F::inv(other));
+    let here = value_at::<F>(&r.top, p.x);
+    let other = value_at::<F>(&r.bottom, p.x);
+    let c = F::mul(F::add(p.y, F::neg(here)), F::inv(other));
     add_multiple::<F>(&mut r.top, c, &r.bottom);
-    multiply_root::<F>(&mut r.bottom, x);
+    multiply_root::<F>(&mut r.bottom, p.x);
 }
 
 // Lets top pass through one more point, where e is not zero and it passes through at most t points yet.
-fn offer<F: Field>(
-    e: &Polynomial<F::Elem>,
-    t: usize,
-    r: &mut Ratio<F::Elem>,
-    x: F::Elem,
-    y: F::Elem,
-)
-    requires { r.old.bottom.len < 64 }
-    ensures { Over F.codes F.code (λ X. ratio X r.new ≡ offered X (coefficients e.now) t (ratio X r.old) x y) }
+fn offer<F: Field>(e: &Polynomial<F::Elem>, t: usize, r: &mut Ratio<F::Elem>, p: Point<F::Elem>)
+    requires { length r.old.bottom < 64 }
+    ensures { Over F.codes F.code (λ X. ratio X r.new ≡ offered X e.now t (ratio X r.old) p.x p.y) }
 {
-    if r.top.len <= t {
-        let z = value::<F>(e, x);
-        if !is_zero::<F>(z) {
-            extend::<F>(r, x, y);
-        }
+    if r.top.len() <= t && !is_zero::<F>(value_at::<F>(e, p.x)) {
+        extend::<F>(r, p);
     }
 }
 
-// The interpolation through the first t + 1 of the first n points at which e is not zero.
+// The interpolation through the first t + 1 of the points at which e is not zero.
 pub(crate) fn read_off<F: Field>(
     e: &Polynomial<F::Elem>,
     points: &[Point<F::Elem>],
-    n: usize,
     t: usize,
-) -> Ratio<F::Elem>
-    requires { (n ≤ length points.now) × ((n < 63) × (t ≤ 60)) }
-    ensures { Over F.codes F.code (λ X. ratio X result ≡ collected X (place X (abscissae points.now)) (place X (ordinates points.now)) (coefficients e.now) t (down n)) }
+) -> Polynomial<F::Elem>
+    requires { (length points.now < 63) × (t ≤ 60) }
+    ensures { Over F.codes F.code (λ X. result ≡ (collected X (place X (abscissae points.now)) (place X (ordinates points.now)) e.now t (down (length points.now))).top) }
 {
     let mut r = Ratio {
         top: nothing::<F>(),
         bottom: unit::<F>(),
     };
-    for i in 0..n {
-        let p = points[i];
-        offer::<F>(e, t, &mut r, p.x, p.y);
+    for p in points {
+        offer::<F>(e, t, &mut r, *p);
     }
-    r
+    r.top
+}
+
+// The ratio that shows where the errors are: the first, if its top has at most 2·t + 1 coefficients.
+fn chosen<E: Copy>(s: &State<E>, t: usize) -> &Ratio<E>
+    requires { t ≤ 20 }
+    ensures { result.now ≡ (if nat_le (length s.now.first.top) (t + t + 1) then s.now.first else s.now.second) }
+{
+    if s.first.top.len() <= t + t + 1 {
+        &s.first
+    } else {
+        &s.second
+    }
 }
 
 // The one polynomial that can miss at most t points, by the first 3·t + 1 of them.
 pub(crate) fn candidate<F: Field>(points: &[Point<F::Elem>], t: usize) -> Polynomial<F::Elem>
     requires { (3 * t + 1 ≤ length points.now) × (t ≤ 20) }
-    ensures { Over F.codes F.code (λ X. coefficients result ≡ answer X (abscissae points.now) (ordinates points.now) t) }
+    ensures { Over F.codes F.code (λ X. result ≡ answer X (abscissae points.now) (ordinates points.now) t) }
 {
-    let n = 3 * t + 1;
-    let s = run::<F>(points, n, t);
-    if s.first.top.len <= t + t + 1 {
-        let Ratio { top, bottom: _ } = read_off::<F>(&s.first.bottom, points, n, t);
-        return top;
-    }
-    let Ratio { top, bottom: _ } = read_off::<F>(&s.second.bottom, points, n, t);
-    top
+    let points = &points[..3 * t + 1];
+    let s = run::<F>(points, t);
+    read_off::<F>(&chosen(&s, t).bottom, points, t)
 }

@@ -1,12 +1,12 @@
 // The polynomial that passes through points, or through all but a few of them.
 ghost use Rattle.std.specs.Prelude.{◌≡◌, ◌+◌, ◌-◌, ◌*◌, ◌≤◌, not, ◌&&◌, map, length, ◌==◌, nat_le};
-ghost use Rattle.scheme.specs.Fitting.{agreements as agreementsOf, decoded, distinct, interpolated, interpolated_at, points_refusal};
+ghost use Rattle.scheme.specs.Fitting.{agreements as agreementsOf, decoded, distinct, interpolated, interpolated_at, passes as passesThrough, points_refusal};
 ghost use Rattle.scheme.specs.Held.{decode_told, interpolate_told, point_codes, polynomial_told, refusal_of, value_told};
 ghost use Rattle.scheme.specs.Questions.{every};
 
-use crate::arithmetic::value_at;
+use crate::arithmetic::{are_equal, value_at};
 use crate::decoding::{candidate, read_off, unit};
-use crate::held::{Polynomial, Ratio};
+use crate::held::Polynomial;
 use crate::types::{Point, PointsFault};
 use fields::Field;
 
@@ -14,33 +14,24 @@ use fields::Field;
 fn is_new<F: Field>(points: &[Point<F::Elem>], x: F::Elem) -> bool
     ensures { result ≡ every (λ b. not (F.code x == b)) (map (λ p. F.code p.x) points.now) }
 {
-    for i in 0..points.len() {
-        let p = points[i];
-        if F::to_code(x) == F::to_code(p.x) {
-            return false;
-        }
-    }
-    true
+    points.iter().all(|p| !are_equal::<F>(x, p.x))
 }
 
 // Whether no two points have one abscissa.
 fn are_distinct<F: Field>(points: &[Point<F::Elem>]) -> bool
     ensures { result ≡ distinct (map (λ p. F.code p.x) points.now) }
 {
-    for i in 0..points.len() {
-        let p = points[i];
-        if !is_new::<F>(&points[i + 1..], p.x) {
-            return false;
-        }
+    match points.split_first() {
+        Some((p, rest)) => is_new::<F>(rest, p.x) && are_distinct::<F>(rest),
+        None => true,
     }
-    true
 }
 
 // Puts the questions about points: from `least` to 32 of them, with distinct abscissae.
 fn ask_points<F: Field>(points: &[Point<F::Elem>], least: usize) -> Result<(), PointsFault>
     ensures { refusal_of result ≡ points_refusal (point_codes F.code points.now) least }
 {
-    if points.len() < least || points.len() > 32 {
+    if !(least..=32).contains(&points.len()) {
         return Err(PointsFault::Count);
     }
     if !are_distinct::<F>(points) {
@@ -49,26 +40,33 @@ fn ask_points<F: Field>(points: &[Point<F::Elem>], least: usize) -> Result<(), P
     Ok(())
 }
 
+// Whether f passes through the point p.
+fn passes<F: Field>(f: &Polynomial<F::Elem>, p: &Point<F::Elem>) -> bool
+    ensures { result ≡ passesThrough F.codes (polynomial_told F.code f.now) (F.code p.now.x, F.code p.now.y) }
+{
+    are_equal::<F>(value_at::<F>(f, p.x), p.y)
+}
+
 // Through how many of the points f passes.
 fn agreements<F: Field>(f: &Polynomial<F::Elem>, points: &[Point<F::Elem>]) -> usize
     ensures { result ≡ agreementsOf F.codes (point_codes F.code points.now) (polynomial_told F.code f.now) }
 {
-    let mut count = 0;
-    for i in 0..points.len() {
-        let p = points[i];
-        if F::to_code(value_at::<F>(f, p.x)) == F::to_code(p.y) {
-            count += 1;
-        }
-    }
-    count
+    points
+        .iter()
+        .filter(
+            |p|
+                ensures { result ≡ passesThrough F.codes (polynomial_told F.code f.entry.now) (F.code p.now.now.x, F.code p.now.now.y) }
+            { passes::<F>(f, p) },
+        )
+        .count()
 }
 
 // Whether f has t + 1 coefficients and passes through all but at most t of the points.
 fn fits<F: Field>(f: &Polynomial<F::Elem>, points: &[Point<F::Elem>], t: usize) -> bool
     requires { (3 * t + 1 ≤ length points.now) × (t ≤ 10) }
-    ensures { result ≡ (f.now.len == t + 1 && nat_le (length points.now - t) (agreementsOf F.codes (point_codes F.code points.now) (polynomial_told F.code f.now))) }
+    ensures { result ≡ (length f.now == t + 1 && nat_le (length points.now - t) (agreementsOf F.codes (point_codes F.code points.now) (polynomial_told F.code f.now))) }
 {
-    f.len == t + 1 && agreements::<F>(f, points) >= points.len() - t
+    f.len() == t + 1 && agreements::<F>(f, points) >= points.len() - t
 }
 
 // The one polynomial with a coefficient for each point that passes through all of them.
@@ -76,10 +74,8 @@ pub fn interpolate<F: Field>(points: &[Point<F::Elem>]) -> Result<Polynomial<F::
     ensures { interpolate_told F.code result ≡ interpolated F.codes (point_codes F.code points.now) }
 {
     ask_points::<F>(points, 1)?;
-    let n = points.len();
     let one = unit::<F>();
-    let Ratio { top, bottom: _ } = read_off::<F>(&one, points, n, n - 1);
-    Ok(top)
+    Ok(read_off::<F>(&one, points, points.len() - 1))
 }
 
 // The value at x of the polynomial that `interpolate` answers.
@@ -105,8 +101,5 @@ pub fn decode<F: Field>(
     }
     ask_points::<F>(points, 3 * t + 1)?;
     let f = candidate::<F>(points, t);
-    if !fits::<F>(&f, points, t) {
-        return Ok(None);
-    }
-    Ok(Some(f))
+    Ok(fits::<F>(&f, points, t).then_some(f))
 }

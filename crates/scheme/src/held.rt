@@ -1,13 +1,60 @@
 // Polynomials and pairs of them, held in place: no call allocates. Twice the 32 points of the largest call leave room for every
 // product.
-ghost use Rattle.std.specs.Prelude.{◌≡◌, ◌≤◌, length};
+ghost use Rattle.std.specs.Prelude.{◌≡◌, ◌<◌, ◌≤◌, [], ◌∷◌, ◌++◌, length};
 
-// The first `len` coefficients are the polynomial's, lowest power first.
+use std::marker::Model;
+
+// A polynomial by its coefficients, lowest power first. A contract sees the list of them; what fills the other places means nothing.
+// It is no `arrayvec::ArrayVec`, which asks a default value of every element; a field does not promise one.
 #[derive(Drop)]
 pub struct Polynomial<E> {
     pub(crate) coeffs: [E; 64],
     pub(crate) len: usize,
-    ghost ok: { (len ≤ 64) × (length coeffs ≡ 64) },
+}
+
+impl<E> Model for Polynomial<E> {
+    ghost use Rattle.std.specs.Prelude.{◌≡◌, ◌≤◌, List, length, take};
+
+    ghost Value = { List E };
+
+    ghost view = { λ p. take p.len p.coeffs };
+
+    ghost invariant = { λ p. (p.len ≤ 64) × (length p.coeffs ≡ 64) };
+}
+
+impl<E: Copy> Polynomial<E> {
+    // No coefficients: the polynomial 0.
+    pub(crate) fn empty(filler: E) -> Self
+        ensures { result ≡ [] }
+    {
+        Polynomial {
+            coeffs: [filler; 64],
+            len: 0,
+        }
+    }
+
+    pub(crate) fn len(&self) -> usize
+        ensures value { result ≡ length self.now }
+        ensures fits { result ≤ 64 }
+    {
+        self.len
+    }
+
+    pub(crate) fn as_slice(&self) -> &[E]
+        ensures value { result.now ≡ self.now }
+        ensures fits { length result.now ≤ 64 }
+    {
+        &self.coeffs[..self.len]
+    }
+
+    // One coefficient more, at the highest power.
+    pub(crate) fn push(&mut self, c: E)
+        requires { length self.old < 64 }
+        ensures { self.new ≡ self.old ++ c ∷ [] }
+    {
+        self.coeffs[self.len] = c;
+        self.len += 1;
+    }
 }
 
 // The ratio of two polynomials.

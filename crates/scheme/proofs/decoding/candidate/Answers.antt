@@ -1,36 +1,42 @@
-use Rattle.std.proofs.Common.{◌≡◌, ℕ, ◌+◌, ◌*◌, Bool, true, false, cond, leb, List, sym, ap, ◌∙◌, arith}
-use Rattle.std.proofs.lemmas.Bool.{le-leb, lt-leb}
+use Rattle.std.proofs.Common.{◌≡◌, ℕ, ◌+◌, ◌*◌, Bool, true, false, cond, leb, List, length, take, refl, ap, ◌∙◌, arith}
+use Rattle.std.proofs.lemmas.List.{length-take-le}
 use Rattle.algebra.specs.Field.{Field}
-use Rattle.algebra.specs.Decoder as algebra
-use Rattle.algebra.specs.Decoder.{answer, chosen, collected, down, place, run}
+use Rattle.algebra.specs.Decoder.{Ratio, answer, chosen, collected, down, place, run}
 use Rattle.fields.specs.Elements.{elements}
 use Rattle.scheme.specs.Held.{abscissae, ordinates, ratio, state}
 use Rattle.scheme.specs.declared.held.State.{State}
 use Rattle.scheme.specs.declared.types.Point.{Point}
 use Rattle.scheme.proofs.Memory.{roomy}
-use Rattle.scheme.proofs.Points.{long}
+use Rattle.scheme.proofs.Points.{collected_front, run_front}
 use Rattle.scheme.proofs.decoding.candidate.Goals as goal
+
+-- what is read off by the bottom that was chosen is the answer
+read : {E : Type 0} (X : Field E) (points : List (Point E)) (t n : ℕ) (s : State E) → n ≡ 3 * t + 1
+    → state X s ≡ run X (place X (abscissae (take n points))) (place X (ordinates (take n points))) t (down n)
+    → (collected X (place X (abscissae (take n points))) (place X (ordinates (take n points))) (cond (leb (length s.first.top) (t + t + 1)) s.first s.second).bottom t (down n)).top
+    ≡ answer X (abscissae points) (ordinates points) t
+read {E} X points t n s e ran =
+    let x = place X (abscissae points) in
+    let y = place X (ordinates points) in
+    ap (λ (r : Ratio X). r.top) (collected_front X points n t _ n (omega arith))
+    ∙ ap (λ f. (collected X x y f t (down n)).top) (either (leb (length s.first.top) (t + t + 1)) ∙ ap (λ s. (chosen X {I = ℕ} x y t t s).bottom) (ran ∙ run_front X points n t n (omega arith)))
+    ∙ ap (λ n. (collected X x y (chosen X {I = ℕ} x y t t (run X x y t (down n))).bottom t (down n)).top) e
+  where
+    either : (b : Bool) → (cond b s.first s.second).bottom ≡ (cond b (ratio X s.first) (ratio X s.second)).bottom
+    either true = refl
+    either false = refl
 
 pub run-s-requires : goal.run-s-requires
 run-s-requires g c =
-    ((roomy g.row.F-Elem g.F.Field.codes g.met.F.Field.laws.on_codes g.met.F.Field.room).state, (omega arith, (omega arith, omega arith)))
-
--- what is read off the ratio that was picked is the answer; `low` tells whether the first was
-read : {E : Type 0} (X : Field E) (points : List (Point E)) (t : ℕ) (s : State E) (low : Bool) (r : algebra.Ratio X)
-    → state X s ≡ run X (place X (abscissae points)) (place X (ordinates points)) t (down (3 * t + 1))
-    → leb s.first.top.len (t + t + 1) ≡ low
-    → r ≡ collected X (place X (abscissae points)) (place X (ordinates points)) (cond low (ratio X s.first) (ratio X s.second)).bottom t (down (3 * t + 1))
-    → r.top ≡ answer X (abscissae points) (ordinates points) t
-read X points t s low r ran picked got =
-    let x = place X (abscissae points) in
-    let y = place X (ordinates points) in
-    let pick : Bool → algebra.Ratio X = λ b. cond b (ratio X s.first) (ratio X s.second) in
-    let same : chosen X {I = ℕ} x y t t (run X x y t (down (3 * t + 1))) ≡ pick low =
-    ap (chosen X {I = ℕ} x y t t) (sym ran) ∙ ap (λ m. pick (leb m (t + t + 1))) (long s.first.top) ∙ ap pick picked in
-    ap (λ (r : algebra.Ratio X). r.top) got ∙ ap (λ (r : algebra.Ratio X). (collected X x y r.bottom t (down (3 * t + 1))).top) (sym same)
-
-pub returns-then-s-t : goal.returns-then-s-t
-returns-then-s-t g c = λ L. read (elements L) c.args.points.now c.args.t c.run-s.result true _ (c.run-s.ensures L) (le-leb _ _ (omega (arith, c.if-s-t.true))) (c.read_off-top.ensures L)
+    let n = 3 * c.args.t + 1 in
+    ((roomy g.row.F-Elem g.F.Field.codes g.met.F.Field.laws.on_codes g.met.F.Field.room).state, (omega (arith, length-take-le n c.args.points.now (omega arith)), omega arith))
 
 pub returns : goal.returns
-returns g c = λ L. read (elements L) c.args.points.now c.args.t c.run-s.result false _ (c.run-s.ensures L) (lt-leb _ _ (omega (arith, c.if-s-t.false))) (c.read_off-top-2.ensures L)
+returns g c = λ L.
+    let X = elements L in
+    let n = 3 * c.args.t + 1 in
+    let points = c.args.points.now in
+    let long : length (take n points) ≡ n = length-take-le n points (omega arith) in
+    let ran = rw long at (c.run-s.ensures L) in
+    let got = rw (long, c.chosen.ensures) at (c.read_off.ensures L) in
+    got ∙ read X points c.args.t n c.run-s.result refl ran
