@@ -1,15 +1,14 @@
 -- The cards on a table after a write to it, and how many lie.
 -- Assumes nothing.
-use Rattle.std.proofs.Common.{◌≡◌, ℕ, zero, suc, ◌+◌, ◌-◌, ◌*◌, ◌<◌, ◌≤◌, Bool, true, false, cond, List, ◌∷◌, map, length, get_or, take, drop, set, replicate, is_some, Some, None, count_by, sym, refl, ap, ◌∙◌, ⊎_elim, arith, rules}
-use Rattle.std.specs.List.{range_with_len}
+use Rattle.std.proofs.Common.{◌≡◌, ℕ, suc, ◌+◌, ◌-◌, ◌*◌, ◌<◌, ◌≤◌, Bool, true, false, cond, List, [], ◌∷◌, map, length, get_or, take, drop, set, replicate, is_some, Some, None, count_by, sym, refl, ap, ◌∙◌, ⊎_elim, arith, rules}
 use lib.Seq.{paste}
 use Rattle.std.proofs.lemmas.List.FromFn.{get_or-map-range_with_len, length-map-range_with_len}
-use Rattle.std.proofs.lemmas.List.{places, same_lists, get_or-set_same, get_or-set_other, length-set, get_or-replicate, length-replicate, drop_more}
+use Rattle.std.proofs.lemmas.List.{places, same_lists, get_or-set_same, get_or-set_other, length-set, get_or-replicate, length-replicate, length-map, length-take-le, get_or-map}
 use Rattle.std.proofs.lemmas.List.Sums.{sum_by-cons}
 use Rattle.std.proofs.lemmas.Bool.{cases_eq}
 use Rattle.scheme.specs.declared.types.Figures.{Figures}
 use Rattle.scheme.specs.declared.types.Pair.{Pair}
-use Rattle.runs.specs.Cards.{Card, Cards, lying_from, lying}
+use Rattle.runs.specs.Cards.{Cards, lying_from, lying}
 use Rattle.sitting.specs.declared.types.Table.{Table}
 use Rattle.sitting.specs.Table.{first_place, card_at, cards_on, written, blank_table}
 
@@ -62,28 +61,24 @@ module _ (f : Figures) (t : Table) (i : ℕ) (pairs : List Pair) (lies : Bool) w
       ∙ sym (get_or-set_other (cards_on f t) (i - 1) k c e (λ q. other (omega arith)) ∙ get_or-map-range_with_len (card_at f.d t) 1 f.n k (1 + k) e in-n refl))
       (cases_eq (1 + k) i))
 
--- one more to count where the flag is set
-one_more : (i : ℕ) (b : Bool) (card : Card) (cards : Cards) → length (lying_from i (cond b (Some card) None ∷ cards)) ≡ cond b 1 0 + length (lying_from (suc i) cards)
-one_more i true card cards = omega arith
-one_more i false card cards = omega arith
-
-count_from : (d : ℕ) (t : Table) (i a n : ℕ) → a + n ≤ length t.lying → length (lying_from i (map (card_at d t) (range_with_len (1 + a) n))) ≡ count_by (λ b. b) (take n (drop a t.lying))
-count_from d t i a zero h = refl
-count_from d t i a (suc n) h =
-    let b = get_or t.lying a false in
-    let card = take d (drop (first_place (1 + a)) t.places) in
-    let rest = map (card_at d t) (range_with_len (1 + a + 1) n) in
-    let at : 1 + a - 1 ≡ a = omega arith in
-    let next : 1 + a + 1 ≡ 1 + (a + 1) = omega arith in
-    ap (λ m. length (lying_from i (cond (get_or t.lying m false) (Some card) None ∷ rest))) at
-    ∙ one_more i b card rest
-    ∙ ap (λ m. cond b 1 0 + length (lying_from (suc i) (map (card_at d t) (range_with_len m n)))) next
-    ∙ ap (λ m. cond b 1 0 + m) (count_from d t (suc i) (a + 1) n (omega arith))
-    ∙ sym (ap (λ l. count_by (λ b. b) (take (suc n) l)) (drop_more t.lying a false (omega arith)) ∙ sum_by-cons (λ b. cond b 1 0) b (take n (drop (a + 1) t.lying)))
+counted_from : (i : ℕ) (cards : Cards) → length (lying_from i cards) ≡ count_by (λ b. b) (map is_some cards)
+counted_from i [] = refl
+counted_from i (None ∷ cards) = omega (arith, counted_from (suc i) cards)
+counted_from i (Some card ∷ cards) = omega (arith, counted_from (suc i) cards, sum_by-cons (λ b. cond b 1 0) true (map is_some cards))
 
 -- as many cards lie as flags are set
 pub lying_counted : (f : Figures) (t : Table) → length t.lying ≡ 32 → length (lying (cards_on f t)) ≡ count_by (λ b. b) (take f.n t.lying)
-lying_counted f t flags = count_from f.d t 1 0 f.n (omega arith)
+lying_counted f t flags =
+    let cards = cards_on f t in
+    let long = length-map-range_with_len (card_at f.d t) 1 f.n in
+    let each : map is_some cards ≡ take f.n t.lying =
+    same_lists _ _ (length-map cards is_some ∙ long ∙ sym (length-take-le f.n t.lying (omega arith)))
+    (λ k e h.
+    let in-n : k < f.n = omega (arith, length-map cards is_some, long) in
+    let same : 1 + k - 1 ≡ k = omega arith in
+    get_or-map is_some cards k None e (omega (arith, long)) ∙ (rw same at (lies_at f t (1 + k) (omega arith) (omega arith)))
+    ∙ search (rules, places)) in
+    counted_from 1 cards ∙ ap (count_by (λ b. b)) each
 
 -- on a blank table no card lies
 pub none_on_blank : (f : Figures) → cards_on f blank_table ≡ replicate f.n None
