@@ -116,7 +116,7 @@ pub(crate) struct Lines<'a> {
     pub(crate) rest: &'a [u8],
 }
 
-// Which number of a pair. (As a closure it would need two clauses more: that it may be called, and what it answers.)
+// Which number of a pair.
 #[derive(Clone, Copy)]
 pub(crate) enum Half {
     Value,
