@@ -16,7 +16,7 @@ pub(crate) struct CardText {
 }
 
 impl Half {
-    // this number of a pair
+    // this number of a pair (a closure in its place needs clauses that it may be called and what it answers)
     fn of(self, pair: &Pair) -> u64
         ensures { result ≡ picked self pair.now }
     {

@@ -124,7 +124,7 @@ pub(crate) enum Half {
 }
 
 // Why a card is not written.
-#[derive(Clone, Copy)]
+#[derive(Clone, Copy, Debug, PartialEq, Eq)]
 pub enum WriteFault {
     // the card is refused
     Card(CardFault),

@@ -33,7 +33,7 @@ impl WriteFault {
     }
 }
 
-// Puts the questions about a card over the field of this name.
+// Puts the questions about a card over the field of this name. (`ask_card` takes the field as a type, so a match names each.)
 fn ask_named(
     field: FieldName,
     figures: &Figures,
