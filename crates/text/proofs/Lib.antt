@@ -8,5 +8,6 @@ pub mod Words
 pub mod Writable
 pub mod LinesBack
 pub mod NumbersBack
+pub mod LinesTold
 pub mod TextRead
 pub mod TextBack

@@ -5,7 +5,6 @@ ghost use Rattle.text.specs.Lines.{written_line};
 ghost use Rattle.text.specs.Numbers.{listed, others};
 ghost use Rattle.text.specs.Writing.{Put, picked};
 
-use crate::numbers::skip;
 use crate::types::{Digits, Half, Key};
 use scheme::Pair;
 
@@ -31,7 +30,7 @@ impl Digits {
     pub(crate) fn shown(&self) -> &[u8]
         ensures { result.now ≡ drop self.now.start self.now.bytes }
     {
-        skip(&self.bytes, self.start)
+        &self.bytes[self.start..]
     }
 }
 
