@@ -6,5 +6,6 @@ pub mod Lengths
 pub mod Writable
 pub mod LinesBack
 pub mod NumbersBack
+pub mod LinesTold
 pub mod TextRead
 pub mod TextBack

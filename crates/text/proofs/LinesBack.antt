@@ -1,20 +1,19 @@
 -- Lines that are written and read, and read and written.
 -- Assumes nothing.
 use Rattle.std.proofs.Common.{◌≡◌, ℕ, suc, ◌+◌, Bool, true, false, cond, List, [], ◌∷◌, ◌++◌, length, take, drop, Some, None, Ok, Err, Option, Result, sym, refl, ap, ◌∙◌, subst, append_assoc, one-add, arith}
-use Rattle.std.specs.List.{prefix_len}
+use Rattle.std.specs.List.{list_all, prefix_len}
 use Rattle.std.specs.Str.{bytes_eq}
 use Rattle.std.proofs.lemmas.Slice.Eq.{bytes_eq-Decides}
 use Rattle.std.proofs.lemmas.List.{take-append-drop, take_at, drop_at}
 use Rattle.std.proofs.lemmas.Bool.{and_parts}
-use Rattle.scheme.specs.Questions.{every}
 use Rattle.text.specs.Refusals.{first_fault, unless_faulty}
 use Rattle.text.proofs.Refused.{all_passed}
-use Rattle.text.specs.Lines.{key_word, content_of, in_content, is_content_lem, begins, line, lines, with_content, and_then, written_line, written}
+use Rattle.text.specs.Lines.{key_word, kind_of, in_content, is_content, begins, line, lines, with_content, and_then, written_line, written}
 use Rattle.text.specs.declared.types.Key.{Key}
 use Rattle.text.specs.declared.types.Key.TheVariants.{Field, Participants, Threshold, Altered, Symbols, Card, Values, Tags, Secret, ValueCoefficients, TagCoefficients}
 
 -- a line ends at its byte 10
-ends_at_10 : (key : Key) → in_content (content_of key) 10 ≡ false
+ends_at_10 : (key : Key) → in_content (kind_of key) 10 ≡ false
 ends_at_10 Field = refl
 ends_at_10 Participants = refl
 ends_at_10 Threshold = refl
@@ -31,7 +30,7 @@ same_itself : (bytes : List ℕ) → bytes_eq bytes bytes ≡ true
 same_itself bytes = (bytes_eq-Decides bytes bytes).1 refl
 
 -- the longest run of bytes that pass ends at the first that does not
-leading_all : (test : ℕ → Bool) (run rest : List ℕ) (b : ℕ) → every test run ≡ true → test b ≡ false → prefix_len test (run ++ (b ∷ rest)) ≡ length run
+leading_all : (test : ℕ → Bool) (run rest : List ℕ) (b : ℕ) → list_all test run ≡ true → test b ≡ false → prefix_len test (run ++ (b ∷ rest)) ≡ length run
 leading_all test [] rest b e n = ap (λ t. cond t (1 + prefix_len test rest) 0) n
 leading_all test (a ∷ run) rest b e n =
     let p = and_parts _ _ e in
@@ -39,8 +38,8 @@ leading_all test (a ∷ run) rest b e n =
 
 -- a content that its key takes: the bytes are of its kind, and it is such a content
 pub record Good (key : Key) (content : List ℕ) : Type 0 where
-  pub bytes : every (in_content (content_of key)) content ≡ true
-  pub is : is_content_lem (content_of key) content ≡ true
+  pub bytes : list_all (in_content (kind_of key)) content ≡ true
+  pub is : is_content (kind_of key) content ≡ true
 
 abbrev pub Goods : List Key → List (List ℕ) → Type 0
 Goods [] [] = Unit {0}
@@ -58,24 +57,24 @@ module _ (at : ℕ) (key : Key) (content rest : List ℕ) (good : Good key conte
   behind : drop (length (key_word key)) line_text ≡ content ++ (10 ∷ rest)
   behind = drop_at (key_word key) (content ++ (10 ∷ rest)) (length (key_word key)) refl
 
-  run : prefix_len (in_content (content_of key)) (content ++ (10 ∷ rest)) ≡ length content
-  run = leading_all (in_content (content_of key)) content rest 10 good.bytes (ends_at_10 key)
+  run : prefix_len (in_content (kind_of key)) (content ++ (10 ∷ rest)) ≡ length content
+  run = leading_all (in_content (kind_of key)) content rest 10 good.bytes (ends_at_10 key)
 
   -- a line that was written is read
   pub line_read : line at key (written_line key content ++ rest) ≡ Ok (content, rest)
   line_read =
       ap (line at key) regrouped
-      ∙ ap (λ l. asked (begins (key_word key) line_text) l (prefix_len (in_content (content_of key)) l)) behind
+      ∙ ap (λ l. asked (begins (key_word key) line_text) l (prefix_len (in_content (kind_of key)) l)) behind
       ∙ ap (asked (begins (key_word key) line_text) (content ++ (10 ∷ rest))) run
       ∙ (λ j. answered (starts j) (take_at content (10 ∷ rest) (length content) refl j) (drop_at content (10 ∷ rest) (length content) refl j))
       ∙ ap (λ b. unless_faulty (cond b None (Some (53, at))) (content, rest)) good.is
     where
       starts : begins (key_word key) line_text ≡ true
-      starts = ap (bytes_eq (key_word key)) (take_at (key_word key) (content ++ (10 ∷ rest)) (length (key_word key)) refl) ∙ same_itself (key_word key)
+      starts = ap (λ front. bytes_eq front (key_word key)) (take_at (key_word key) (content ++ (10 ∷ rest)) (length (key_word key)) refl) ∙ same_itself (key_word key)
 
       answered : Bool → List ℕ → List ℕ → Result (List ℕ × List ℕ) (ℕ × ℕ)
       answered b c r =
-          unless_faulty (first_fault ((b, (52, at)) ∷ (is_content_lem (content_of key) c, (53, at)) ∷ (begins (10 ∷ []) r, (54, at)) ∷ [])) (c, drop 1 r)
+          unless_faulty (first_fault ((b, (52, at)) ∷ (is_content (kind_of key) c, (53, at)) ∷ (begins (10 ∷ []) r, (54, at)) ∷ [])) (c, drop 1 r)
 
       asked : Bool → List ℕ → ℕ → Result (List ℕ × List ℕ) (ℕ × ℕ)
       asked b l end = answered b (take end l) (drop end l)
@@ -102,7 +101,7 @@ unrefused (Some x) a b e = absurd (not_ok x b e)
 
 begins_with : (front text : List ℕ) → begins front text ≡ true → front ++ drop (length front) text ≡ text
 begins_with front text e =
-    ap (λ l. l ++ drop (length front) text) ((bytes_eq-Decides front (take (length front) text)).0 e) ∙ take-append-drop (length front) text
+    ap (λ l. l ++ drop (length front) text) (sym ((bytes_eq-Decides (take (length front) text) front).0 e)) ∙ take-append-drop (length front) text
 
 -- a line that was read is written
 module _ (at : ℕ) (key : Key) (whole : List ℕ) where
@@ -110,14 +109,14 @@ module _ (at : ℕ) (key : Key) (whole : List ℕ) where
   rest_of = drop (length (key_word key)) whole
 
   abbrev run_length : ℕ
-  run_length = prefix_len (in_content (content_of key)) rest_of
+  run_length = prefix_len (in_content (kind_of key)) rest_of
 
   abbrev line_questions : List (Bool × (ℕ × ℕ))
   line_questions =
-      (begins (key_word key) whole, (52, at)) ∷ (is_content_lem (content_of key) (take run_length rest_of), (53, at)) ∷ (begins (10 ∷ []) (drop run_length rest_of), (54, at)) ∷ []
+      (begins (key_word key) whole, (52, at)) ∷ (is_content (kind_of key) (take run_length rest_of), (53, at)) ∷ (begins (10 ∷ []) (drop run_length rest_of), (54, at)) ∷ []
 
   pub line_back : (content rest : List ℕ) → line at key whole ≡ Ok (content, rest)
-      → (written_line key content ++ rest ≡ whole) × (is_content_lem (content_of key) content ≡ true)
+      → (written_line key content ++ rest ≡ whole) × (is_content (kind_of key) content ≡ true)
   line_back content rest e =
       let u = unrefused (first_fault line_questions) (take run_length rest_of, drop 1 (drop run_length rest_of)) (content, rest) e in
       let told = all_passed line_questions u.0 in
@@ -128,7 +127,7 @@ module _ (at : ℕ) (key : Key) (whole : List ℕ) where
             ∙ ap (λ l. key_word key ++ l)
             (append_assoc content (10 ∷ []) rest ∙ (λ j. sym c-is j ++ ending j) ∙ take-append-drop run_length rest_of)
             ∙ begins_with (key_word key) whole told.0,
-        subst (λ c. is_content_lem (content_of key) c ≡ true) c-is told.1.0,
+        subst (λ c. is_content (kind_of key) c ≡ true) c-is told.1.0,
       )
 
 -- every content is what its key asks for
@@ -136,7 +135,7 @@ abbrev pub Contents : List Key → List (List ℕ) → Type 0
 Contents [] [] = Unit {0}
 Contents [] (content ∷ contents) = ⊥
 Contents (key ∷ keys) [] = ⊥
-Contents (key ∷ keys) (content ∷ contents) = (is_content_lem (content_of key) content ≡ true) × Contents keys contents
+Contents (key ∷ keys) (content ∷ contents) = (is_content (kind_of key) content ≡ true) × Contents keys contents
 
 pub record Back (keys : List Key) (text : List ℕ) (contents : List (List ℕ)) (rest : List ℕ) : Type 0 where
   pub same : written keys contents ++ rest ≡ text

@@ -16,10 +16,9 @@ use Rattle.scheme.specs.declared.types.Pair.{Pair}
 use Rattle.scheme.proofs.Acceptance.{all_yes}
 use Rattle.runs.specs.Cards.{is_coded_lem}
 use Rattle.text.specs.Card.{Reading, codes_of, field_named_lem, card_keys, paired, reading, reading_questions, settled, read_card}
-use Rattle.text.specs.Lines.{is_content_lem, field_name, lines, written}
+use Rattle.text.specs.Lines.{Name, is_content, field_name, lines, written}
 use Rattle.text.specs.Numbers.{digits_value, numbers_in, listed}
 use Rattle.text.specs.RoundTrips.{WrittenBack}
-use Rattle.text.specs.declared.types.Content.TheVariants.{Name}
 use Rattle.text.specs.declared.types.FieldName.TheVariants.{Byte, P251}
 use Rattle.text.proofs.LinesBack.{Back, lines_back, unrefused, not_ok}
 use Rattle.text.proofs.NumbersBack.{decimal_back, listed_back}
@@ -48,7 +47,7 @@ passing n k t d e =
       symbols = (leb-true _ _ c.0, leb-true _ _ c.1);
     }
 
-name_back : (name : List ℕ) → is_content_lem Name name ≡ true → field_name (field_named_lem name) ≡ name
+name_back : (name : List ℕ) → is_content Name name ≡ true → field_name (field_named_lem name) ≡ name
 name_back name e =
     elim (bytes_eq name (field_name Byte)) as (λ b. bytes_eq name (field_name Byte) ≡ b → (b || bytes_eq name (field_name P251)) ≡ true → field_name (cond b Byte P251) ≡ name) [
       | true ↦ λ q _. sym ((bytes_eq-Decides name (field_name Byte)).0 q)

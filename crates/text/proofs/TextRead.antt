@@ -1,38 +1,32 @@
 -- The text of a card that passes its questions fits, and is read as that card.
 -- Assumes nothing.
 use Rattle.std.proofs.Common.{◌≡◌, ℕ, ◌+◌, ◌*◌, ◌<◌, ◌≤◌, true, leb, List, [], ◌∷◌, ◌++◌, map, length, drop, is_ok, None, Ok, Err, decimal, sym, refl, ap, ◌∙◌, subst, mul-le-mul, arith}
-use Rattle.std.specs.List.{AllByRecursion}
+use Rattle.std.specs.List.{AllByRecursion, list_all}
 use Rattle.std.proofs.lemmas.Fmt.{length-decimal-le}
 use Rattle.std.proofs.ByRecursion.{All-map, All-weaker}
 use Rattle.std.proofs.lemmas.List.{length-append, length-map}
 use Rattle.std.proofs.lemmas.Bool.{and_from, cond-true, eq-eqb, le-leb, lt-ltb}
 use Rattle.scheme.specs.Figures.{figures_questions, figures_answer}
-use Rattle.scheme.specs.Questions.{every, unless, all_codes}
+use Rattle.scheme.specs.Questions.{unless, all_codes}
 use Rattle.scheme.specs.declared.types.Figures.{Figures}
 use Rattle.scheme.specs.declared.types.Pair.{Pair}
 use Rattle.runs.specs.Cards.{card_refusal}
-use Rattle.text.specs.Card.{codes_of, field_named_lem, card_keys, paired, reading, reading_questions, answer, settled, read_card, card_contents, card_text}
-use Rattle.text.specs.Lines.{key_word, content_of, in_content, is_content_lem, field_name, written, written_line}
+use Rattle.text.specs.Card.{codes_of, card_keys, paired, reading, reading_questions, answer, settled, read_card, card_contents, card_text}
+use Rattle.text.specs.Lines.{Number, key_word, kind_of, in_content, is_content, field_name, written, written_line}
 use Rattle.text.specs.Numbers.{listed}
 use Rattle.text.specs.RoundTrips.{reading_for}
-use Rattle.text.specs.declared.types.Content.TheVariants.{Number}
 use Rattle.text.specs.declared.types.Key.{Key}
 use Rattle.text.specs.declared.types.Key.TheVariants.{Field, Participants, Threshold, Altered, Symbols, Card, Values, Tags}
 use Rattle.text.specs.declared.types.FieldName.{FieldName}
 use Rattle.text.specs.declared.types.FieldName.TheVariants.{Byte, P251}
 use Rattle.text.proofs.LinesBack.{Good, Goods, lines_read}
+use Rattle.text.proofs.LinesTold.{named_back}
 use Rattle.text.proofs.NumbersBack.{decimal_digits, decimal_is_number, value_back, listed_is_list, numbers_back, listed_bytes}
 use Rattle.text.proofs.Writable.{Passed, passed, size_small}
 use Rattle.text.proofs.Lengths.{word_short, name_short, length_listed}
 use Rattle.runs.proofs.Lists.{no_refusal}
 use Rattle.text.specs.Refusals.{unless_faulty}
 use Rattle.text.proofs.Refused.{no_fault}
-
--- the names of fields
-
-named_back : (field : FieldName) → field_named_lem (field_name field) ≡ field
-named_back Byte = refl
-named_back P251 = refl
 
 -- values and tags of a card
 
@@ -140,10 +134,10 @@ module _ (field : FieldName) (f : Figures) (number : ℕ) (card : List Pair) (un
         length-map card (λ (pair : Pair). pair.tag),
       )
 
-  good_number : (key : Key) → content_of key ≡ Number → (n : ℕ) → n < 10000000000 → Good key (decimal n)
+  good_number : (key : Key) → kind_of key ≡ Number → (n : ℕ) → n < 10000000000 → Good key (decimal n)
   good_number key e n h = record {
-    bytes = subst (λ c. every (in_content c) (decimal n) ≡ true) (sym e) (decimal_digits n h);
-    is = subst (λ c. is_content_lem c (decimal n) ≡ true) (sym e) (decimal_is_number n h);
+    bytes = subst (λ c. list_all (in_content c) (decimal n) ≡ true) (sym e) (decimal_digits n h);
+    is = subst (λ c. is_content c (decimal n) ≡ true) (sym e) (decimal_is_number n h);
   }
 
   goods : Goods card_keys (card_contents field f number card)

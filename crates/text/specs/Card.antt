@@ -1,6 +1,7 @@
 -- The text of a card: eight lines. What the reader tells of a text, and what the writer writes.
 -- Assumes nothing.
 use Rattle.std.specs.Prelude.{ℕ, ◌*◌, Bool, cond, ◌&&◌, List, [], ◌∷◌, ◌++◌, map, length, drop, is_ok, Some, None, Ok, Err, decimal, Option, Result, ◌==◌, nat_le, slice_index_or}
+use Rattle.std.specs.List.{zip}
 use Rattle.std.specs.Str.{bytes_eq}
 use Rattle.fields.specs.Laws.{Codes}
 use Rattle.fields.specs.Byte.{byte}
@@ -40,9 +41,7 @@ card_keys = keys_with Card Values Tags
 
 -- values and tags, pair by pair
 abbrev pub paired : List ℕ → List ℕ → Pairs
-paired [] tags = []
-paired (value ∷ values) [] = []
-paired (value ∷ values) (tag ∷ tags) = record { value = value; tag = tag } ∷ paired values tags
+paired values tags = map (λ both. record { value = both.0; tag = both.1 }) (zip values tags)
 
 -- what a text tells: the field, n, k, t and d, whose card it is, and the card
 pub record Reading : Type 0 where

@@ -1,6 +1,6 @@
 -- The refusals of texts: number and line; and those of the writer.
 -- Assumes nothing.
-use Rattle.std.specs.Prelude.{ℕ}
+use Rattle.std.specs.Prelude.{ℕ, Some, None, Ok, Err, Option, Result}
 use Rattle.sitting.specs.Faults.{card_number}
 use Rattle.text.specs.declared.types.TextFault.{TextFault}
 use Rattle.text.specs.declared.types.TextFault.TheVariants.{TooLong, Key, Content, LineEnd, Follows, Figures, Number, Count, Code}
@@ -18,6 +18,11 @@ fault_told Figures = (56, 5)
 fault_told Number = (57, 6)
 fault_told (Count line) = (58, line)
 fault_told (Code line) = (59, line)
+
+-- the number and line of the refusal that an answer tells, if any
+abbrev pub refusal_told : Result (Unit {0}) TextFault → Option (ℕ × ℕ)
+refusal_told (Ok _) = None
+refusal_told (Err e) = Some (fault_told e)
 
 abbrev pub write_number : WriteFault → ℕ
 write_number (Card e) = card_number e

@@ -8,8 +8,6 @@ use Rattle.text.specs.Refusals.{first_fault, unless_faulty}
 use Rattle.text.specs.Numbers.{is_number, is_list}
 use Rattle.text.specs.declared.types.FieldName.{FieldName}
 use Rattle.text.specs.declared.types.FieldName.TheVariants.{Byte, P251}
-use Rattle.text.specs.declared.types.Content.{Content}
-use Rattle.text.specs.declared.types.Content.TheVariants.{Name, Number, Numbers, OptionalNumbers, Piece}
 use Rattle.text.specs.declared.types.Key.{Key}
 use Rattle.text.specs.declared.types.Key.TheVariants.{Field, Participants, Threshold, Altered, Symbols, Card, Values, Tags, Secret, ValueCoefficients, TagCoefficients}
 
@@ -31,47 +29,56 @@ key_word Secret = codes "key="
 key_word ValueCoefficients = codes "a="
 key_word TagCoefficients = codes "c="
 
+-- what can stand behind a key
+pub data Kind : Type 0 where
+  -- the name of a field
+  Name : Kind
+  -- one number
+  Number : Kind
+  -- numbers that are separated by commas
+  Numbers : Kind
+  -- such numbers, or nothing
+  OptionalNumbers : Kind
+
 -- what stands behind the key
-abbrev pub content_of : Key → Content
-content_of Field = Name
-content_of Participants = Number
-content_of Threshold = Number
-content_of Altered = Number
-content_of Symbols = Number
-content_of Card = Number
-content_of Values = Numbers
-content_of Tags = Numbers
-content_of Secret = Numbers
-content_of ValueCoefficients = OptionalNumbers
-content_of TagCoefficients = Numbers
+abbrev pub kind_of : Key → Kind
+kind_of Field = Name
+kind_of Participants = Number
+kind_of Threshold = Number
+kind_of Altered = Number
+kind_of Symbols = Number
+kind_of Card = Number
+kind_of Values = Numbers
+kind_of Tags = Numbers
+kind_of Secret = Numbers
+kind_of ValueCoefficients = OptionalNumbers
+kind_of TagCoefficients = Numbers
 
 -- the bytes that a content can have: it is the longest run of such bytes
-abbrev pub in_content : Content → ℕ → Bool
+abbrev pub in_content : Kind → ℕ → Bool
 in_content Name b = not (b == 10)
 in_content Number b = is_ascii_digit b
 in_content Numbers b = is_ascii_digit b || b == 44
 in_content OptionalNumbers b = is_ascii_digit b || b == 44
-in_content Piece b = not (b == 44)
 
 -- the run is such a content
-abbrev pub is_content_lem : Content → List ℕ → Bool
-is_content_lem Name run = bytes_eq run (field_name Byte) || bytes_eq run (field_name P251)
-is_content_lem Number run = is_number run
-is_content_lem Numbers run = is_list run
-is_content_lem OptionalNumbers run = length run == 0 || is_list run
-is_content_lem Piece run = is_number run
+abbrev pub is_content : Kind → List ℕ → Bool
+is_content Name run = bytes_eq run (field_name Byte) || bytes_eq run (field_name P251)
+is_content Number run = is_number run
+is_content Numbers run = is_list run
+is_content OptionalNumbers run = length run == 0 || is_list run
 
 abbrev pub begins : List ℕ → List ℕ → Bool
-begins front text = bytes_eq front (take (length front) text)
+begins front text = bytes_eq (take (length front) text) front
 
 -- the line of this key at the front of the text, which is line number `at`: its content, and what follows the line
 abbrev pub line : ℕ → Key → List ℕ → Result (List ℕ × List ℕ) (ℕ × ℕ)
 line at key text =
     let behind = drop (length (key_word key)) text in
-    let end = prefix_len (in_content (content_of key)) behind in
+    let end = prefix_len (in_content (kind_of key)) behind in
     unless_faulty (first_fault (
     (begins (key_word key) text, (52, at))
-    ∷ (is_content_lem (content_of key) (take end behind), (53, at))
+    ∷ (is_content (kind_of key) (take end behind), (53, at))
     ∷ (begins (10 ∷ []) (drop end behind), (54, at))
     ∷ []))
     (take end behind, drop 1 (drop end behind))

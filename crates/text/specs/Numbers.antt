@@ -1,9 +1,8 @@
 -- Numbers, and lists of numbers, as text. A text is the list of its bytes; `decimal n` are the digits of n, highest first.
 -- Assumes nothing.
-use Rattle.std.specs.Prelude.{ℕ, ◌+◌, ◌-◌, ◌*◌, Bool, cond, not, ◌&&◌, List, [], ◌∷◌, ◌++◌, map, length, decimal, fold, ◌==◌, nat_le, nat_lt, slice_index}
-use Rattle.std.specs.List.{flat_map}
-use Rattle.std.specs.Str.{all_ascii_digits}
-use Rattle.scheme.specs.Questions.{every}
+use Rattle.std.specs.Prelude.{ℕ, ◌+◌, ◌-◌, ◌*◌, Bool, cond, not, ◌&&◌, List, [], ◌∷◌, ◌++◌, map, length, Some, None, Option, decimal, fold, ◌==◌, nat_le, nat_lt, slice_index}
+use Rattle.std.specs.List.{flat_map, list_all, slice_split}
+use Rattle.std.specs.Char.{is_ascii_digit}
 
 -- the number that digits write
 abbrev pub digits_value : List ℕ → ℕ
@@ -12,20 +11,19 @@ digits_value digits = fold (λ n c. n * 10 + (c - 48)) 0 digits
 -- 1 to 10 digits without a leading zero, 0 itself allowed
 abbrev pub is_number : List ℕ → Bool
 is_number text =
-    nat_le 1 (length text) && (nat_le (length text) 10 && (all_ascii_digits text && not (slice_index text 0 == 48 && nat_lt 1 (length text))))
+    nat_le 1 (length text) && (nat_le (length text) 10 && (list_all is_ascii_digit text && not (slice_index text 0 == 48 && nat_lt 1 (length text))))
 
-abbrev pub before_first : ℕ → List (List ℕ) → List (List ℕ)
-before_first b [] = (b ∷ []) ∷ []
-before_first b (piece ∷ pieces) = (b ∷ piece) ∷ pieces
+-- the number that a text is, where it is one
+abbrev pub number_told : List ℕ → Option ℕ
+number_told text = cond (is_number text) (Some (digits_value text)) None
 
 -- what stands between the commas
 abbrev pub pieces : List ℕ → List (List ℕ)
-pieces [] = [] ∷ []
-pieces (b ∷ text) = cond (b == 44) ([] ∷ pieces text) (before_first b (pieces text))
+pieces text = slice_split (λ b. b == 44) text
 
 -- numbers that are separated by single commas
 abbrev pub is_list : List ℕ → Bool
-is_list text = every is_number (pieces text)
+is_list text = list_all is_number (pieces text)
 
 abbrev pub numbers_in : List ℕ → List ℕ
 numbers_in text = map digits_value (pieces text)

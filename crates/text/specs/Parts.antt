@@ -1,34 +1,38 @@
 -- What the structs of lines show.
 -- Assumes nothing.
-use Rattle.std.specs.Prelude.{◌≡◌, ℕ, true, List, [], ◌∷◌, Ok, Err, Result}
+use Rattle.std.specs.Prelude.{ℕ, List, [], ◌∷◌, Ok, Err, decimal, Option, Result, Some, None}
 use Rattle.text.specs.Faults.{fault_told}
+use Rattle.text.specs.Lines.{field_name}
+use Rattle.text.specs.Numbers.{numbers_in}
+use Rattle.text.specs.declared.numbers.NumberList.{NumberList}
 use Rattle.text.specs.declared.types.Line.{Line}
 use Rattle.text.specs.declared.types.Lines.{Lines}
-use Rattle.text.specs.declared.types.Key.{Key}
-use Rattle.text.specs.Lines.{content_of, is_content_lem}
-use Rattle.text.specs.declared.types.Content.TheVariants.{Number}
 use Rattle.text.specs.declared.types.TextFault.{TextFault}
 
--- the content and what follows the line, or the refusal's number and line
-abbrev pub line_told : Result Line TextFault → Result (List ℕ × List ℕ) (ℕ × ℕ)
-line_told (Ok l) = Ok (l.content.now, l.rest.now)
-line_told (Err e) = Err (fault_told e)
+-- the text of a list, and of one that may be missing
+abbrev pub list_text : NumberList → List ℕ
+list_text list = list.text.now
 
--- the contents in their order
-abbrev pub contents : Lines → List (List ℕ)
-contents l = l.field.now ∷ l.n.now ∷ l.k.now ∷ l.t.now ∷ l.d.now ∷ l.sixth.now ∷ l.seventh.now ∷ l.eighth.now ∷ []
+abbrev pub optional_text : Option NumberList → List ℕ
+optional_text None = []
+optional_text (Some list) = list.text.now
 
--- the contents and what follows the last line, or the refusal's number and line
-abbrev pub lines_told : Result Lines TextFault → Result (List (List ℕ) × List ℕ) (ℕ × ℕ)
-lines_told (Ok l) = Ok (contents l, l.rest.now)
-lines_told (Err e) = Err (fault_told e)
+-- the numbers of a list that may be missing
+abbrev pub optional_numbers : Option NumberList → List ℕ
+optional_numbers None = []
+optional_numbers (Some list) = numbers_in list.text.now
 
--- every content is what its key asks for
-pub record Sound (sixth seventh eighth : Key) (l : Lines) : Type 0 where
-  pub n : is_content_lem Number l.n.now ≡ true
-  pub k : is_content_lem Number l.k.now ≡ true
-  pub t : is_content_lem Number l.t.now ≡ true
-  pub d : is_content_lem Number l.d.now ≡ true
-  pub sixth_is : is_content_lem (content_of sixth) l.sixth.now ≡ true
-  pub seventh_is : is_content_lem (content_of seventh) l.seventh.now ≡ true
-  pub eighth_is : is_content_lem (content_of eighth) l.eighth.now ≡ true
+-- the content, by the text that it stands for, and what follows the line; or the refusal's number and line
+abbrev pub line_told : {C : Type 0} → (C → List ℕ) → Result (Line C) TextFault → Result (List ℕ × List ℕ) (ℕ × ℕ)
+line_told text (Ok l) = Ok (text l.content, l.rest.now)
+line_told text (Err e) = Err (fault_told e)
+
+-- the texts of the contents in their order
+abbrev pub contents : {S V : Type 0} → (S → List ℕ) → (V → List ℕ) → Lines S V → List (List ℕ)
+contents sixth seventh l =
+    field_name l.field ∷ decimal l.n ∷ decimal l.k ∷ decimal l.t ∷ decimal l.d ∷ sixth l.sixth ∷ seventh l.seventh ∷ list_text l.eighth ∷ []
+
+-- the texts of the contents and what follows the last line, or the refusal's number and line
+abbrev pub lines_told : {S V : Type 0} → (S → List ℕ) → (V → List ℕ) → Result (Lines S V) TextFault → Result (List (List ℕ) × List ℕ) (ℕ × ℕ)
+lines_told sixth seventh (Ok l) = Ok (contents sixth seventh l, l.rest.now)
+lines_told sixth seventh (Err e) = Err (fault_told e)

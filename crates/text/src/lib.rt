@@ -1,6 +1,7 @@
 // Cards as text.
 #![tactic(auto)]
 
+mod content;
 mod lines;
 mod numbers;
 mod putting;

@@ -1,11 +1,12 @@
 // The lines of a text, one at a time.
-ghost use Rattle.std.specs.Prelude.{◌≡◌, true, IfOk};
-ghost use Rattle.std.specs.Str.{bytes_eq};
-ghost use Rattle.text.specs.Lines.{begins as beginsWith, content_of, field_name, is_content_lem, key_word, keys_with, line, lines};
-ghost use Rattle.text.specs.Parts.{Sound, line_told, lines_told};
+ghost use Rattle.std.specs.Prelude.{◌≡◌, ◌≤◌, length};
+ghost use Rattle.std.specs.List.{prefix_len};
+ghost use Rattle.text.specs.Lines.{Number, Numbers, field_name, in_content, key_word, keys_with, kind_of, line, lines};
+ghost use Rattle.text.specs.Parts.{line_told, lines_told};
 
-use crate::numbers::{first, is_number, is_numbers, leading, skip};
-use crate::types::{Content, FieldName, Key, Line, Lines, TextFault};
+use crate::content::Content;
+use crate::numbers::NumberList;
+use crate::types::{FieldName, Key, Line, Lines, TextFault};
 
 impl FieldName {
     // the name as it stands in a text
@@ -39,88 +40,69 @@ impl Key {
         }
     }
 
-    // what stands behind the key
-    fn content(self) -> Content
-        ensures { result ≡ content_of self }
+    // whether the byte can stand behind the key
+    fn has(self, byte: u8) -> bool
+        ensures { result ≡ in_content (kind_of self) byte }
     {
         match self {
-            Key::Field => Content::Name,
-            Key::Values | Key::Tags | Key::Secret | Key::TagCoefficients => Content::Numbers,
-            Key::ValueCoefficients => Content::OptionalNumbers,
-            _ => Content::Number,
+            Key::Field => byte != b'\n',
+            Key::Values | Key::Tags | Key::Secret | Key::ValueCoefficients | Key::TagCoefficients =>
+                byte.is_ascii_digit() || byte == b',',
+            _ => byte.is_ascii_digit(),
         }
     }
-}
 
-// Whether two texts are equal.
-pub(crate) fn same(a: &[u8], b: &[u8]) -> bool
-    ensures { result ≡ bytes_eq a.now b.now }
-{
-    a == b
-}
-
-// Whether the text begins with these bytes.
-fn begins(front: &[u8], text: &[u8]) -> bool
-    ensures { result ≡ beginsWith front.now text.now }
-{
-    text.starts_with(front)
-}
-
-// Whether the run of bytes is such a content.
-fn is_content(content: Content, run: &[u8]) -> bool
-    ensures { result ≡ is_content_lem content run.now }
-{
-    match content {
-        Content::Name => same(run, FieldName::Byte.word()) || same(run, FieldName::P251.word()),
-        Content::Number | Content::Piece => is_number(run),
-        Content::Numbers => is_numbers(run),
-        Content::OptionalNumbers => run.len() == 0 || is_numbers(run),
+    // how many such bytes the text begins with
+    fn leading(self, text: &[u8]) -> usize
+        ensures value { result ≡ prefix_len (in_content (kind_of self)) text.now }
+        ensures bound { result ≤ length text.now }
+    {
+        text.iter().take_while(|b| self.has(**b)).count()
     }
 }
 
 // Takes the line of this key, which is line number `at`, from the front of the text.
-pub(crate) fn take_line<'a>(at: u32, key: Key, text: &'a [u8]) -> Result<Line<'a>, TextFault>
-    ensures told { line_told result ≡ line at key text.now }
-    ensures sound { IfOk result (λ l. is_content_lem (content_of key) l.content.now ≡ true) }
+pub(crate) fn take_line<'a, C: Content<'a>>(
+    at: u32,
+    key: Key,
+    text: &'a [u8],
+) -> Result<Line<'a, C>, TextFault>
+    requires { kind_of key ≡ C.kind }
+    ensures { line_told C.text result ≡ line at key text.now }
 {
-    let word = key.word();
-    if !begins(word, text) {
+    let Some(behind) = text.strip_prefix(key.word()) else {
         return Err(TextFault::Key { line: at });
-    }
-    let behind = skip(text, word.len());
-    let end = leading(key.content(), behind);
-    let content = first(behind, end);
-    if !is_content(key.content(), content) {
+    };
+    let (run, ending) = behind.split_at(key.leading(behind));
+    let Some(content) = C::read(run) else {
         return Err(TextFault::Content { line: at });
-    }
-    let ending = skip(behind, end);
-    if !begins(b"\n", ending) {
+    };
+    let Some(rest) = ending.strip_prefix(b"\n") else {
         return Err(TextFault::LineEnd { line: at });
-    }
-    Ok(Line {
-        content,
-        rest: skip(ending, 1),
-    })
+    };
+    Ok(Line { content, rest })
 }
 
 // Takes the five lines that tell of a scheme, and three more of these keys, from the front of the text.
-pub(crate) fn take_lines<'a>(
+pub(crate) fn take_lines<'a, S: Content<'a>, V: Content<'a>>(
     sixth: Key,
     seventh: Key,
     eighth: Key,
     text: &'a [u8],
-) -> Result<Lines<'a>, TextFault>
-    ensures told { lines_told result ≡ lines 1 (keys_with sixth seventh eighth) text.now }
-    ensures sound { IfOk result (Sound sixth seventh eighth) }
+) -> Result<Lines<'a, S, V>, TextFault>
+    requires sixth { kind_of sixth ≡ S.kind }
+    requires seventh { kind_of seventh ≡ V.kind }
+    requires eighth { kind_of eighth ≡ Numbers }
+    ensures { lines_told S.text V.text result ≡ lines 1 (keys_with sixth seventh eighth) text.now }
 {
-    let field = take_line(1, Key::Field, text)?;
-    let n = take_line(2, Key::Participants, field.rest)?;
-    let k = take_line(3, Key::Threshold, n.rest)?;
-    let t = take_line(4, Key::Altered, k.rest)?;
-    let d = take_line(5, Key::Symbols, t.rest)?;
-    let sixth_line = take_line(6, sixth, d.rest)?;
-    let seventh_line = take_line(7, seventh, sixth_line.rest)?;
-    let eighth_line = take_line(8, eighth, seventh_line.rest)?;
+    let field = take_line::<FieldName>(1, Key::Field, text)?;
+    let n = take_line::<u64>(2, Key::Participants, field.rest)?;
+    let k = take_line::<u64>(3, Key::Threshold, n.rest)?;
+    let t = take_line::<u64>(4, Key::Altered, k.rest)?;
+    let d = take_line::<u64>(5, Key::Symbols, t.rest)?;
+    let sixth_line = take_line::<S>(6, sixth, d.rest)?;
+    let seventh_line = take_line::<V>(7, seventh, sixth_line.rest)?;
+    let eighth_line = take_line::<NumberList>(8, eighth, seventh_line.rest)?;
     Ok(Lines {
         field: field.content,
         n: n.content,

@@ -1,49 +1,40 @@
 // The reader of card texts.
-ghost use Rattle.std.specs.Prelude.{◌≡◌, ◌*◌, ◌≤◌, true, ◌&&◌, length, take, is_some, IfSome, is_ok, Ok, nat_le};
-ghost use Rattle.scheme.specs.Figures.{figures_answer};
+ghost use Rattle.std.specs.Prelude.{◌≡◌, ◌*◌, ◌≤◌, [], ◌∷◌, length, take, decimal};
 ghost use Rattle.scheme.specs.Questions.{all_codes};
 ghost use Rattle.std.specs.Option.{option_map};
-ghost use Rattle.text.specs.Card.{card_keys, codes_of, field_named_lem, paired, part_of, read_card, settled};
-ghost use Rattle.text.specs.Faults.{fault_told};
+ghost use Rattle.text.specs.Card.{answer, card_keys, codes_of, paired, part_of, read_card};
+ghost use Rattle.text.specs.Faults.{fault_told, refusal_told};
 ghost use Rattle.text.specs.Lines.{lines as lines_of};
-ghost use Rattle.text.specs.Numbers.{digits_value, is_list, is_number, numbers_in};
-ghost use Rattle.text.specs.Parts.{Sound, contents};
+ghost use Rattle.text.specs.Numbers.{numbers_in};
+ghost use Rattle.text.specs.Parts.{lines_told, list_text};
+ghost use Rattle.text.specs.Refusals.{first_fault};
 ghost use Rattle.text.specs.Shown.{read_told, shown};
 
-use crate::lines::{same, take_lines};
-use crate::numbers::{copy_numbers, count_numbers, number};
-use crate::types::{CardRead, CardReader, FieldName, Key, Lines, TextFault};
-use fields::{Byte, Doubled, P251};
+use crate::lines::take_lines;
+use crate::types::{CardLines, CardRead, CardReader, FieldName, Key, TextFault};
+use fields::{Byte, Doublable, Doubled, P251};
 use scheme::{Figures, Pair, are_codes, figures};
 
-// The field that is named.
-pub(crate) fn field_named(name: &[u8]) -> FieldName
-    ensures { result ≡ field_named_lem name.now }
+// Asks whether the values are codes of the field, and the tags codes of the doubled field.
+fn ask_codes<F: Doublable>(values: &[u64], tags: &[u64]) -> Result<(), TextFault>
+    ensures { refusal_told result ≡ first_fault ((all_codes F.Field.codes.size values.now, (59, 7)) ∷ (all_codes (F.Field.codes.size * F.Field.codes.size) tags.now, (59, 8)) ∷ []) }
 {
-    if same(name, FieldName::Byte.word()) {
-        FieldName::Byte
-    } else {
-        FieldName::P251
+    if !are_codes::<F>(values) {
+        return Err(TextFault::Code { line: 7 });
     }
+    if !are_codes::<Doubled<F>>(tags) {
+        return Err(TextFault::Code { line: 8 });
+    }
+    Ok(())
 }
 
-// Whether the numbers are codes of the field.
-fn are_values(field: FieldName, numbers: &[u64]) -> bool
-    ensures { result ≡ all_codes (codes_of field).size numbers.now }
+// Asks the same over the field of this name.
+fn ask_named(field: FieldName, values: &[u64], tags: &[u64]) -> Result<(), TextFault>
+    ensures { refusal_told result ≡ first_fault ((all_codes (codes_of field).size values.now, (59, 7)) ∷ (all_codes ((codes_of field).size * (codes_of field).size) tags.now, (59, 8)) ∷ []) }
 {
     match field {
-        FieldName::Byte => are_codes::<Byte>(numbers),
-        FieldName::P251 => are_codes::<P251>(numbers),
-    }
-}
-
-// Whether the numbers are codes of the doubled field.
-fn are_tags(field: FieldName, numbers: &[u64]) -> bool
-    ensures { result ≡ all_codes ((codes_of field).size * (codes_of field).size) numbers.now }
-{
-    match field {
-        FieldName::Byte => are_codes::<Doubled<Byte>>(numbers),
-        FieldName::P251 => are_codes::<Doubled<P251>>(numbers),
+        FieldName::Byte => ask_codes::<Byte>(values, tags),
+        FieldName::P251 => ask_codes::<P251>(values, tags),
     }
 }
 
@@ -53,77 +44,43 @@ fn pair_up(values: &[u64], tags: &[u64]) -> [Pair; 64]
     ensures { take (length values.now) result ≡ paired values.now tags.now }
 {
     let mut pairs = [Pair { value: 0, tag: 0 }; 64];
-    for j in 0..values.len() {
+    for (j, (value, tag)) in values.iter().zip(tags).enumerate() {
         pairs[j] = Pair {
-            value: values[j],
-            tag: tags[j],
+            value: *value,
+            tag: *tag,
         };
     }
     pairs
 }
 
-// The numbers of a list of d numbers, at the front of 64.
-pub(crate) fn read_numbers(list: &[u8], d: usize) -> [u64; 64]
-    requires { (is_list list.now ≡ true) × ((length (numbers_in list.now) ≡ d) × (d ≤ 64)) }
-    ensures { take d result ≡ numbers_in list.now }
-{
-    let mut numbers = [0u64; 64];
-    copy_numbers(list, &mut numbers[0..d]);
-    numbers
-}
-
-// The figures that four numbers tell, where they pass.
-fn pass_figures(n: &[u8], k: &[u8], t: &[u8], d: &[u8]) -> Option<Figures>
-    requires { (is_number n.now ≡ true) × ((is_number k.now ≡ true) × ((is_number t.now ≡ true) × (is_number d.now ≡ true))) }
-    ensures test { is_some result ≡ is_ok (figures_answer (digits_value n.now) (digits_value k.now) (digits_value t.now) (digits_value d.now)) }
-    ensures value { IfSome result (λ f. (f.n ≡ digits_value n.now) × (f.k ≡ digits_value k.now) × (f.t ≡ digits_value t.now) × (f.d ≡ digits_value d.now)) }
-{
-    figures(number(n), number(k), number(t), number(d)).ok()
-}
-
-// Whether i is from 1 to n.
-fn is_from_one(i: u64, n: usize) -> bool
-    ensures { result ≡ (nat_le 1 i && nat_le i n) }
-{
-    i >= 1 && i <= n as u64
-}
-
 // Puts the questions that follow the eight lines.
-fn settle(lines: Lines) -> Result<CardRead, TextFault>
-    requires { Sound Key.Card Key.Values Key.Tags lines }
-    ensures { read_told result ≡ settled (Ok (contents lines.entry, lines.entry.rest.now)) }
+fn settle(lines: &CardLines) -> Result<CardRead, TextFault>
+    ensures { read_told result ≡ answer lines.now.field lines.now.n lines.now.k lines.now.t lines.now.d lines.now.sixth (numbers_in lines.now.seventh.text.now) (numbers_in lines.now.eighth.text.now) lines.now.rest.now }
 {
-    if lines.rest.len() != 0 {
+    if !lines.rest.is_empty() {
         return Err(TextFault::Follows);
     }
-    let Some(passed) = pass_figures(lines.n, lines.k, lines.t, lines.d) else {
+    let Ok(figures) = figures(lines.n, lines.k, lines.t, lines.d) else {
         return Err(TextFault::Figures);
     };
-    let owner = number(lines.sixth);
-    if !is_from_one(owner, passed.n()) {
+    if !figures.has_participant(lines.sixth) {
         return Err(TextFault::Number);
     }
-    let d = passed.d();
-    if count_numbers(lines.seventh) != d {
+    let d = figures.d();
+    if lines.seventh.count() != d {
         return Err(TextFault::Count { line: 7 });
     }
-    if count_numbers(lines.eighth) != d {
+    if lines.eighth.count() != d {
         return Err(TextFault::Count { line: 8 });
     }
-    let field = field_named(lines.field);
-    let values = read_numbers(lines.seventh, d);
-    if !are_values(field, &values[0..d]) {
-        return Err(TextFault::Code { line: 7 });
-    }
-    let tags = read_numbers(lines.eighth, d);
-    if !are_tags(field, &tags[0..d]) {
-        return Err(TextFault::Code { line: 8 });
-    }
+    let values = lines.seventh.to_array::<64>();
+    let tags = lines.eighth.to_array::<64>();
+    ask_named(lines.field, &values[..d], &tags[..d])?;
     Ok(CardRead {
-        field,
-        figures: passed,
-        number: owner,
-        pairs: pair_up(&values[0..d], &tags[0..d]),
+        field: lines.field,
+        figures,
+        number: lines.sixth,
+        pairs: pair_up(&values[..d], &tags[..d]),
     })
 }
 
@@ -134,6 +91,13 @@ impl<'a> CardReader<'a> {
         CardReader { text }
     }
 
+    // the eight lines of a card
+    fn lines(&self) -> Result<CardLines<'a>, TextFault>
+        ensures { lines_told decimal list_text result ≡ lines_of 1 card_keys self.now.text.now }
+    {
+        take_lines(Key::Card, Key::Values, Key::Tags, self.text)
+    }
+
     // Reads the text, or refuses it by the first question that is answered with no.
     pub fn read(&self) -> Result<CardRead, TextFault>
         ensures { read_told result ≡ read_card self.now.text.now }
@@ -141,27 +105,21 @@ impl<'a> CardReader<'a> {
         if self.text.len() > 1024 {
             return Err(TextFault::TooLong);
         }
-        settle(take_lines(Key::Card, Key::Values, Key::Tags, self.text)?)
+        settle(&self.lines()?)
     }
 
     // The list of values, as it stands in the text, where all lines pass.
     pub fn values(&self) -> Option<&'a [u8]>
         ensures { option_map (λ x. x.now) result ≡ part_of 6 (lines_of 1 card_keys self.now.text.now) }
     {
-        match take_lines(Key::Card, Key::Values, Key::Tags, self.text) {
-            Ok(lines) => Some(lines.seventh),
-            Err(_) => None,
-        }
+        Some(self.lines().ok()?.seventh.text)
     }
 
     // The list of tags, as it stands in the text, where all lines pass.
     pub fn tags(&self) -> Option<&'a [u8]>
         ensures { option_map (λ x. x.now) result ≡ part_of 7 (lines_of 1 card_keys self.now.text.now) }
     {
-        match take_lines(Key::Card, Key::Values, Key::Tags, self.text) {
-            Ok(lines) => Some(lines.eighth),
-            Err(_) => None,
-        }
+        Some(self.lines().ok()?.eighth.text)
     }
 }
 
@@ -191,7 +149,7 @@ impl CardRead {
     pub fn card(&self) -> &[Pair]
         ensures { result.now ≡ (shown self.now).card }
     {
-        &self.pairs[0..self.figures.d()]
+        &self.pairs[..self.figures.d()]
     }
 }
 
@@ -219,14 +177,14 @@ impl TextFault {
     {
         match self {
             TextFault::TooLong => 0,
-            TextFault::Key { line } => *line,
-            TextFault::Content { line } => *line,
-            TextFault::LineEnd { line } => *line,
             TextFault::Follows => 9,
             TextFault::Figures => 5,
             TextFault::Number => 6,
-            TextFault::Count { line } => *line,
-            TextFault::Code { line } => *line,
+            TextFault::Key { line }
+            | TextFault::Content { line }
+            | TextFault::LineEnd { line }
+            | TextFault::Count { line }
+            | TextFault::Code { line } => *line,
         }
     }
 }

@@ -1,16 +1,15 @@
 // The reader of dealing sheets.
-ghost use Rattle.std.specs.Prelude.{◌≡◌, ◌+◌, ◌-◌, ◌*◌, ◌≤◌, true, ◌&&◌, ◌||◌, length, take, Ok, ◌==◌, nat_eq};
+ghost use Rattle.std.specs.Prelude.{◌≡◌, ◌*◌, ◌≤◌, length, take};
 ghost use Rattle.scheme.specs.Dealing.{deal_told, dealing};
 ghost use Rattle.text.specs.Card.{codes_of, u_of, v_of};
-ghost use Rattle.text.specs.Numbers.{is_list, numbers_in, optional_numbers_in};
-ghost use Rattle.text.specs.Parts.{Sound, contents};
-ghost use Rattle.text.specs.Sheet.{read_sheet_lem, sheet_fault_told, sheet_settled, sheet_shown, sheet_told};
+ghost use Rattle.text.specs.Numbers.{numbers_in};
+ghost use Rattle.text.specs.Parts.{optional_numbers};
+ghost use Rattle.text.specs.Sheet.{read_sheet_lem, sheet_answer, sheet_fault_told, sheet_shown, sheet_told};
 ghost use Rattle.text.specs.declared.types.SheetFault.TheVariants.{Deal, Figures as Passing, Line};
 
 use crate::lines::take_lines;
-use crate::numbers::{copy_numbers, count_numbers, number};
-use crate::reader::{field_named, read_numbers};
-use crate::types::{FieldName, Key, Lines, Sheet, SheetFault, TextFault};
+use crate::numbers::NumberList;
+use crate::types::{FieldName, Key, Sheet, SheetFault, SheetLines, TextFault};
 use fields::{Byte, P251};
 use scheme::{DealFault, Figures, FiguresFault, Pair, deal, figures};
 
@@ -38,104 +37,46 @@ impl From<DealFault> for SheetFault {
     }
 }
 
-// How many numbers the list has, which may be empty.
-fn count_optional(list: &[u8]) -> usize
-    ensures { result ≡ length (optional_numbers_in list.now) }
+// How many numbers the list has, which may be missing.
+fn count_optional(list: Option<NumberList>) -> usize
+    ensures { result ≡ length (optional_numbers list.entry) }
 {
-    if list.len() == 0 {
-        0
-    } else {
-        count_numbers(list)
+    list.map_or(0, |list| list.count())
+}
+
+// Its numbers, at the front of N.
+fn optional_to_array<const N: usize>(list: Option<NumberList>) -> [u64; N]
+    requires { length (optional_numbers list) ≤ N }
+    ensures { take (length (optional_numbers list.entry)) result ≡ optional_numbers list.entry }
+{
+    match list {
+        Some(list) => list.to_array(),
+        None => [0; N],
     }
-}
-
-// Copies the numbers of a list, which may be empty, into a buffer with a place for each.
-fn copy_optional(list: &[u8], numbers: &mut [u64])
-    requires { ((length list.now == 0 || is_list list.now) ≡ true) × (length (optional_numbers_in list.now) ≡ length numbers.old) }
-    ensures { numbers.new ≡ optional_numbers_in list.now }
-{
-    if list.len() != 0 {
-        copy_numbers(list, numbers);
-    }
-}
-
-// How many value coefficients a dealing takes.
-fn value_count(figures: &Figures) -> usize
-    ensures value { result ≡ figures.now.d * (figures.now.k - 1) }
-    ensures bound { result ≤ 2048 }
-{
-    figures.d() * (figures.k() - 1)
-}
-
-// How many tag coefficients a dealing takes.
-fn tag_count(figures: &Figures) -> usize
-    ensures value { result ≡ figures.now.d * (figures.now.t + 1) }
-    ensures bound { result ≤ 1024 }
-{
-    figures.d() * (figures.t() + 1)
-}
-
-// The value coefficients of a list that may be empty, at the front of 2,048 numbers.
-fn read_values(list: &[u8], count: usize) -> [u64; 2048]
-    requires { ((length list.now == 0 || is_list list.now) ≡ true) × ((length (optional_numbers_in list.now) ≡ count) × (count ≤ 2048)) }
-    ensures { take count result ≡ optional_numbers_in list.now }
-{
-    let mut numbers = [0u64; 2048];
-    copy_optional(list, &mut numbers[0..count]);
-    numbers
-}
-
-// The tag coefficients of a list, at the front of 1,024 numbers.
-fn read_tags(list: &[u8], count: usize) -> [u64; 1024]
-    requires { (is_list list.now ≡ true) × ((length (numbers_in list.now) ≡ count) × (count ≤ 1024)) }
-    ensures { take count result ≡ numbers_in list.now }
-{
-    let mut numbers = [0u64; 1024];
-    copy_numbers(list, &mut numbers[0..count]);
-    numbers
-}
-
-// Whether there are as many value coefficients and tag coefficients as there are places for them.
-fn are_as_many(values: usize, value_places: usize, tags: usize, tag_places: usize) -> bool
-    ensures { result ≡ (nat_eq values value_places && nat_eq tags tag_places) }
-{
-    values == value_places && tags == tag_places
 }
 
 // Puts the questions that follow the eight lines.
-fn settle_sheet(lines: Lines) -> Result<Sheet, SheetFault>
-    requires { Sound Key.Secret Key.ValueCoefficients Key.TagCoefficients lines }
-    ensures { sheet_told result ≡ sheet_settled (Ok (contents lines.entry, lines.entry.rest.now)) }
+fn settle_sheet(lines: &SheetLines) -> Result<Sheet, SheetFault>
+    ensures { sheet_told result ≡ sheet_answer lines.now.field lines.now.n lines.now.k lines.now.t lines.now.d (numbers_in lines.now.sixth.text.now) (optional_numbers lines.now.seventh) (numbers_in lines.now.eighth.text.now) lines.now.rest.now }
 {
-    if lines.rest.len() != 0 {
+    if !lines.rest.is_empty() {
         return Err(SheetFault::Line(TextFault::Follows));
     }
-    let passed = figures(
-        number(lines.n),
-        number(lines.k),
-        number(lines.t),
-        number(lines.d),
-    )?;
-    let d = passed.d();
-    if count_numbers(lines.sixth) != d {
+    let figures = figures(lines.n, lines.k, lines.t, lines.d)?;
+    if lines.sixth.count() != figures.d() {
         return Err(SheetFault::Deal(DealFault::KeySymbols));
     }
-    let value_places = value_count(&passed);
-    let tag_places = tag_count(&passed);
-    if !are_as_many(
-        count_optional(lines.seventh),
-        value_places,
-        count_numbers(lines.eighth),
-        tag_places,
-    ) {
+    if count_optional(lines.seventh) != figures.value_coefficients()
+        || lines.eighth.count() != figures.tag_coefficients()
+    {
         return Err(SheetFault::Deal(DealFault::Coefficients));
     }
     Ok(Sheet {
-        field: field_named(lines.field),
-        figures: passed,
-        key: read_numbers(lines.sixth, d),
-        values: read_values(lines.seventh, value_places),
-        tags: read_tags(lines.eighth, tag_places),
+        field: lines.field,
+        figures,
+        key: lines.sixth.to_array(),
+        values: optional_to_array(lines.seventh),
+        tags: lines.eighth.to_array(),
     })
 }
 
@@ -144,9 +85,9 @@ pub fn read_sheet(text: &[u8]) -> Result<Sheet, SheetFault>
     ensures { sheet_told result ≡ read_sheet_lem text.now }
 {
     if text.len() > 16384 {
-        return Err(SheetFault::TooLong);
+        return Err(SheetFault::Line(TextFault::TooLong));
     }
-    settle_sheet(take_lines(
+    settle_sheet(&take_lines(
         Key::Secret,
         Key::ValueCoefficients,
         Key::TagCoefficients,
@@ -173,31 +114,29 @@ impl Sheet {
     pub fn key(&self) -> &[u64]
         ensures { result.now ≡ (sheet_shown self.now).key }
     {
-        &self.key[0..self.figures.d()]
+        &self.key[..self.figures.d()]
     }
 
     // the value coefficients
     pub fn values(&self) -> &[u64]
         ensures { result.now ≡ (sheet_shown self.now).values }
     {
-        &self.values[0..value_count(&self.figures)]
+        &self.values[..self.figures.value_coefficients()]
     }
 
     // the tag coefficients
     pub fn tags(&self) -> &[u64]
         ensures { result.now ≡ (sheet_shown self.now).tags }
     {
-        &self.tags[0..tag_count(&self.figures)]
+        &self.tags[..self.figures.tag_coefficients()]
     }
-}
 
-impl Sheet {
     // how many pairs its cards have
     pub fn pairs(&self) -> usize
         ensures value { result ≡ self.now.figures.n * self.now.figures.d }
         ensures bound { result ≤ 2048 }
     {
-        self.figures.n() * self.figures.d()
+        self.figures.pairs()
     }
 
     // Deals what the sheet tells into a buffer of pairs, as the call `deal` does over the field that is named.
@@ -229,7 +168,6 @@ impl SheetFault {
         ensures { result ≡ (sheet_fault_told self.now).0 }
     {
         match self {
-            SheetFault::TooLong => 51,
             SheetFault::Line(e) => e.number(),
             SheetFault::Figures(e) => e.number(),
             SheetFault::Deal(e) => e.number(),

@@ -1,6 +1,7 @@
 // What the reader and the writer of texts take and answer.
 ghost use Rattle.std.specs.Prelude.{◌≤◌};
 
+use crate::numbers::NumberList;
 use scheme::{DealFault, Figures, FiguresFault, Pair};
 use sitting::CardFault;
 
@@ -18,6 +19,7 @@ pub struct CardReader<'a> {
 }
 
 // What a text that passed the reader tells: the field, the figures, whose card it is, and the card.
+// The pairs are an array, whose length d stands in the figures: a list of fixed capacity is not `Copy`, as this type is.
 #[derive(Clone, Copy)]
 pub struct CardRead {
     pub(crate) field: FieldName,
@@ -54,25 +56,10 @@ pub(crate) enum Key {
     TagCoefficients,
 }
 
-// What stands behind a key.
-#[derive(Clone, Copy)]
-pub(crate) enum Content {
-    // the name of a field
-    Name,
-    // one number
-    Number,
-    // numbers that are separated by commas
-    Numbers,
-    // such numbers, or nothing
-    OptionalNumbers,
-    // one number of such a list
-    Piece,
-}
-
 // Why a text is refused, with the line where that is not always the same.
-#[derive(Clone, Copy)]
+#[derive(Clone, Copy, PartialEq, Eq, Debug)]
 pub enum TextFault {
-    // the text has more than 1,024 bytes
+    // the text has more than 1,024 bytes, or a sheet more than 16,384
     TooLong,
     // the line does not begin with its key and an equals sign
     Key { line: u32 },
@@ -94,27 +81,33 @@ pub enum TextFault {
 
 // A line of a text, taken apart.
 #[derive(Clone, Copy)]
-pub(crate) struct Line<'a> {
+pub(crate) struct Line<'a, C> {
     // what stands behind the key
-    pub(crate) content: &'a [u8],
+    pub(crate) content: C,
     // what follows the line
     pub(crate) rest: &'a [u8],
 }
 
-// The contents of the lines of a text: the five that tell of a scheme, and three more.
+// What the lines of a text tell: the five that tell of a scheme, and three more.
 #[derive(Clone, Copy)]
-pub(crate) struct Lines<'a> {
-    pub(crate) field: &'a [u8],
-    pub(crate) n: &'a [u8],
-    pub(crate) k: &'a [u8],
-    pub(crate) t: &'a [u8],
-    pub(crate) d: &'a [u8],
-    pub(crate) sixth: &'a [u8],
-    pub(crate) seventh: &'a [u8],
-    pub(crate) eighth: &'a [u8],
+pub(crate) struct Lines<'a, S, V> {
+    pub(crate) field: FieldName,
+    pub(crate) n: u64,
+    pub(crate) k: u64,
+    pub(crate) t: u64,
+    pub(crate) d: u64,
+    pub(crate) sixth: S,
+    pub(crate) seventh: V,
+    pub(crate) eighth: NumberList<'a>,
     // what follows the last line
     pub(crate) rest: &'a [u8],
 }
+
+// The lines of a card: whose it is, its values and its tags.
+pub(crate) type CardLines<'a> = Lines<'a, u64, NumberList<'a>>;
+
+// The lines of a dealing sheet: the key's symbols, the value coefficients if there are any, and the tag coefficients.
+pub(crate) type SheetLines<'a> = Lines<'a, NumberList<'a>, Option<NumberList<'a>>>;
 
 // Which number of a pair.
 #[derive(Clone, Copy)]
@@ -133,6 +126,7 @@ pub enum WriteFault {
 }
 
 // What a dealing sheet tells: the field, the figures, and the lists that `deal` takes.
+// The lists are arrays, whose lengths follow from the figures: a list of fixed capacity is not `Copy`, as this type is.
 #[derive(Clone, Copy)]
 pub struct Sheet {
     pub(crate) field: FieldName,
@@ -146,11 +140,9 @@ pub struct Sheet {
 }
 
 // Why a dealing sheet is refused.
-#[derive(Clone, Copy)]
+#[derive(Clone, Copy, PartialEq, Eq, Debug)]
 pub enum SheetFault {
-    // the text has more than 16,384 bytes
-    TooLong,
-    // a line is refused, or something follows the last
+    // the text is too long, a line is refused, or something follows the last
     Line(TextFault),
     // the figures do not pass
     Figures(FiguresFault),

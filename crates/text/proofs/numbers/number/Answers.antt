@@ -1,23 +1,17 @@
-use Rattle.std.proofs.Common.{◌+◌, ◌-◌, ◌*◌, sym, ap, ◌∙◌, arith}
-use Rattle.std.proofs.lemmas.List.{take_all}
-use Rattle.std.proofs.lemmas.List.Sums.{fold_more}
-use Rattle.text.specs.Numbers.{digits_value}
-use Rattle.text.proofs.Digits.{digit_in, ten_more}
+use Rattle.std.proofs.Common.{Some, None, sym, ap, ◌∙◌, subst}
+use Rattle.std.specs.Result.{result_ok}
+use Rattle.std.specs.Str.Parse.{ParsesUnsigned}
+use Rattle.std.proofs.lemmas.Bool.{cond-true}
+use Rattle.text.specs.Numbers.{digits_value, is_number}
+use Rattle.text.proofs.Digits.{number_is_text, number_parsed}
 use Rattle.text.proofs.numbers.number.Goals as goal
 
-pub overflow_sub-b : goal.overflow_sub-b
-overflow_sub-b c = omega (arith, digit_in c.args.text.now c.loop-b.b-index c.requires c.loop-b-test.true)
-
-pub loop-b-preserved : goal.loop-b-preserved
-loop-b-preserved c =
-    let text = c.args.text.now in
-    let i = c.loop-b.b-index in
-    let h = c.loop-b-test.true in
-    let more = fold_more (λ n b. n * 10 + (b - 48)) 0 text i 0 h in
-    let digit = digit_in text i c.requires h in (
-      (λ k. c.loop-b.invariant.0 k * 10 + c.from.ensures k) ∙ sym more,
-      ten_more c.loop-b.n c.from.result i c.loop-b.invariant.1 (omega (arith, digit.1)),
-    )
+pub returns-in_default : goal.returns-in_default
+returns-in_default c = absurd (c.in_default.ensures.cases.0 (number_is_text c.args.text.now (sym c.is_number.ensures ∙ c.if-not-is_number.false)))
 
 pub returns : goal.returns
-returns c = c.loop-b.invariant.0 ∙ ap digits_value (take_all c.loop-b.b-index c.args.text.now c.loop-b-test.false)
+returns c =
+    let text = c.args.text.now in
+    let is = sym c.is_number.ensures ∙ c.if-not-is_number.false in
+    let parses = subst (λ t. ParsesUnsigned 64 10 t c.parse.result) c.in-Ok.ensures.cases.0 c.parse.ensures.value.0 in
+    c.ok.ensures.value ∙ ap result_ok (number_parsed text c.parse.result parses is) ∙ sym (cond-true (is_number text) (Some (digits_value text)) None is)

@@ -1,7 +1,0 @@
-use Rattle.std.proofs.Common.{length, ap, ◌∙◌}
-use Rattle.std.proofs.lemmas.List.{take_at}
-use Rattle.text.proofs.sheet.read_values.Goals as goal
-
-pub returns : goal.returns
-returns c =
-    take_at c.copy_optional.new.numbers _ c.args.count (ap length c.copy_optional.ensures ∙ c.requires.1.0) ∙ c.copy_optional.ensures
