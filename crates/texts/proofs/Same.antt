@@ -10,6 +10,7 @@ use Rattle.text.specs.RoundTrips.{reading_for}
 use Rattle.text.specs.contracts.types.FieldName.{the_type}
 use Rattle.text.specs.declared.types.FieldName.{FieldName}
 
+-- `==` of two pairs
 pub pair_Decides : (a b : Pair) → Decides (nat_eq a.value b.value && nat_eq a.tag b.tag) (a ≡ b)
 pair_Decides a b =
     Decides-like _ (λ p i. record { value = p.0 i; tag = p.1 i }) (λ e. (ap (λ (x : Pair). x.value) e, ap (λ (x : Pair). x.tag) e))
@@ -20,6 +21,7 @@ abbrev pub same_figures : Figures → Figures → Bool
 same_figures f g = nat_eq f.n g.n && (nat_eq f.k g.k && (nat_eq f.t g.t && nat_eq f.d g.d))
 
 module _ (x y : FieldName) (f g : Figures) (m n : ℕ) (p q : List Pair) (cards : Bool) (same_cards : Decides cards (p ≡ q)) where
+  -- `==` of field, figures, number and card is that of what is read, where `==` of the cards is that of their pairs
   pub reading_Decides : Decides (sameb the_type x y && same_figures f g && nat_eq m n && cards) (reading_for x f m p ≡ reading_for y g n q)
   reading_Decides =
       Decides-like _

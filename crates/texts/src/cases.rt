@@ -13,6 +13,7 @@ pub struct Case<'a> {
     pub room: usize,
 }
 
+// What a line about a case begins with.
 impl fmt::Display for Case<'_> {
     fn fmt<W: fmt::Write>(&self, f: &mut fmt::Formatter<W>) -> fmt::Result {
         let (name, number, room) = (self.name, self.number, self.room);

@@ -118,7 +118,7 @@ fn show_lengths(rt: &HostRuntime, name: &str, bytes: &[u8; 1025]) -> io::Result<
     Ok(())
 }
 
-// The two lists as parts of a text, and all that a text tells.
+// The two lists as parts of a text, and what a whole text tells.
 fn parts(rt: &HostRuntime) -> io::Result<()> {
     for (name, text) in PARTS {
         let reader = CardReader::new(text);
@@ -139,6 +139,7 @@ fn shown<'a>(part: Option<&'a [u8]>) -> &'a str {
     part.map_or("none", |bytes| from_utf8(bytes).unwrap_or("no text"))
 }
 
+// Shows all that a text tells.
 fn show_card(rt: &HostRuntime, card: &CardRead) -> io::Result<()> {
     let (number, pairs) = (card.number(), card.card());
     let field = shown(Some(card.field().word()));
@@ -149,6 +150,7 @@ fn show_card(rt: &HostRuntime, card: &CardRead) -> io::Result<()> {
 
 // ---- the writer: the worked example, every refusal at its boundary, and the largest texts
 
+// Shows the cases with figures that passed.
 fn show_cases(
     rt: &HostRuntime,
     answer: Result<Figures, FiguresFault>,
