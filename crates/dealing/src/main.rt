@@ -19,6 +19,7 @@ fn main(rt: HostRuntime) -> io::Result<()> {
     }
 }
 
+// Deals the example, and prints the figures and the cards.
 fn deal_and_print(rt: &HostRuntime, passed: &Figures) -> io::Result<()> {
     let (n, k, t, d) = (passed.n(), passed.k(), passed.t(), passed.d());
     println!(rt; "field=p251 n={n} k={k} t={t} d={d}")?;
@@ -29,6 +30,7 @@ fn deal_and_print(rt: &HostRuntime, passed: &Figures) -> io::Result<()> {
     }
 }
 
+// A line for each card.
 fn print_cards(rt: &HostRuntime, cards: &[Pair]) -> io::Result<()> {
     for (number, Pair { value, tag }) in (1..).zip(cards) {
         println!(rt; "card={number} value={value} tag={tag}")?;

@@ -26,6 +26,7 @@ fn deal_text(sheet_text: &[u8], cards: &mut [Pair; 2048]) -> Result<Sheet, Sheet
     Ok(sheet)
 }
 
+// The texts of all cards.
 fn print_cards(rt: &HostRuntime, sheet: &Sheet, cards: &[Pair]) -> io::Result<()> {
     let figures = sheet.figures();
     for (number, card) in (1..).zip(cards.chunks(figures.d()).take(figures.n())) {
@@ -34,6 +35,7 @@ fn print_cards(rt: &HostRuntime, sheet: &Sheet, cards: &[Pair]) -> io::Result<()
     Ok(())
 }
 
+// The text of a card.
 fn print_card(rt: &HostRuntime, sheet: &Sheet, number: u64, card: &[Pair]) -> io::Result<()> {
     let mut buffer = [0u8; 1024];
     match write_card(sheet.field(), &sheet.figures(), number, card, &mut buffer) {

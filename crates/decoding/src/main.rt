@@ -30,6 +30,7 @@ fn main(rt: HostRuntime) -> io::Result<()> {
     table::<Doubled<Byte>>(&rt, "doubled byte")
 }
 
+// The table over a field.
 fn table<F: Field>(rt: &HostRuntime, name: &str) -> io::Result<()> {
     println!(rt; "{name}")?;
     for (count, t, errors) in CASES {

@@ -13,6 +13,7 @@ fn main(rt: HostRuntime) -> io::Result<()> {
     measure::<Doubled<Byte>>(&rt, "doubled byte", timed)
 }
 
+// Decodes the places over a field, and shows how many have an answer, and with `timed` how long that took.
 fn measure<F: Field>(rt: &HostRuntime, name: &str, timed: bool) -> io::Result<()> {
     let start = Instant::now(rt)?;
     let decoded = (0..64).filter(|place| is_decoded::<F>(*place)).count();
@@ -24,7 +25,8 @@ fn measure<F: Field>(rt: &HostRuntime, name: &str, timed: bool) -> io::Result<()
     Ok(())
 }
 
-// The element whose code is the remainder of n by the field's size.
+// The element whose code is the remainder of n by the field's size. `decoding` has this line too: a crate of its own would be no
+// plainer.
 fn element<F: Field>(n: u64) -> F::Elem {
     F::from_code(n % F::size()).unwrap()
 }

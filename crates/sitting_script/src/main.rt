@@ -46,6 +46,7 @@ fn play<F: Doublable>(
     Ok(())
 }
 
+// A pair by its two codes.
 fn pair(value: u64, tag: u64) -> Pair {
     Pair { value, tag }
 }
@@ -94,6 +95,7 @@ fn refusals(rt: &HostRuntime, sitting: &mut Gathering<P251>) -> io::Result<()> {
     )
 }
 
+// Cards that lie are withdrawn, and others do not lie.
 fn withdrawals(rt: &HostRuntime, sitting: &mut Gathering<P251>) -> io::Result<()> {
     play(
         rt,
@@ -153,6 +155,7 @@ fn show_key(rt: &HostRuntime, key: &mut [u64]) -> io::Result<()>
     print_symbols(rt, held.key)
 }
 
+// A line for each symbol.
 fn print_symbols(rt: &HostRuntime, symbols: &[u64]) -> io::Result<()> {
     for (j, symbol) in symbols.iter().enumerate() {
         println!(rt; "place {j}: {symbol}")?;
@@ -160,6 +163,7 @@ fn print_symbols(rt: &HostRuntime, symbols: &[u64]) -> io::Result<()> {
     Ok(())
 }
 
+// Confirms a key, and shows the answer and the buffer afterwards.
 fn confirm(rt: &HostRuntime, mut key: [u64; 2], expected: &[u64]) -> io::Result<()> {
     let same = confirm_key(&mut key, expected);
     let [first, second] = key;

@@ -1,2 +1,2 @@
 mod Held
-mod SamePairs
+mod Same

@@ -12,10 +12,6 @@ use Rattle.texts.specs.declared.cases.Case.{Case}
 abbrev pub held : ℕ → List ℕ → List ℕ
 held n text = text ++ replicate (n - length text) 7
 
--- n, k, t and d
-abbrev pub four : Figures → ℕ × ℕ × ℕ × ℕ
-four f = (f.n, f.k, f.t, f.d)
-
 -- the writer gives this text for this card
 abbrev pub IsWrittenAs : CardRead → List ℕ → Type 0
 IsWrittenAs card text =

@@ -1,5 +1,6 @@
 // The cards for the writer.
 use scheme::Pair;
+use std::fmt;
 use text::FieldName;
 
 // A card for the writer, with the room of its buffer.
@@ -10,6 +11,14 @@ pub struct Case<'a> {
     pub number: u64,
     pub card: &'a [Pair],
     pub room: usize,
+}
+
+// What a line about a case begins with.
+impl fmt::Display for Case<'_> {
+    fn fmt<W: fmt::Write>(&self, f: &mut fmt::Formatter<W>) -> fmt::Result {
+        let (name, number, room) = (self.name, self.number, self.room);
+        write!(f, "{name}: card={number} room={room}")
+    }
 }
 
 // The cards of the worked example, from participant 1 on.
@@ -130,195 +139,183 @@ const TAG_MOST: &[Pair] = &[
     Pair { value: 0, tag: 0 },
 ];
 
+// A card that is written; the others tell where they differ from it.
+const WRITTEN: Case<'static> = Case {
+    name: "least room",
+    field: FieldName::P251,
+    number: 2,
+    card: FINE,
+    room: 1024,
+};
+
 // Cards at the boundary of every question of the writer, for n = 5 and d = 2.
 pub const CASES: [Case<'static>; 27] = [
     Case {
         name: "number 0",
-        field: FieldName::P251,
         number: 0,
-        card: FINE,
-        room: 1024,
+        ..WRITTEN
     },
     Case {
         name: "number 1",
-        field: FieldName::P251,
         number: 1,
-        card: FINE,
-        room: 1024,
+        ..WRITTEN
     },
     Case {
         name: "number n",
-        field: FieldName::P251,
         number: 5,
-        card: FINE,
-        room: 1024,
+        ..WRITTEN
     },
     Case {
         name: "number n + 1",
-        field: FieldName::P251,
         number: 6,
-        card: FINE,
-        room: 1024,
+        ..WRITTEN
     },
     Case {
         name: "the largest number",
-        field: FieldName::P251,
         number: u64::MAX,
-        card: FINE,
-        room: 1024,
+        ..WRITTEN
     },
     Case {
         name: "number n + 1 over byte",
         field: FieldName::Byte,
         number: 6,
-        card: FINE,
-        room: 1024,
+        ..WRITTEN
     },
     Case {
         name: "no pair",
-        field: FieldName::P251,
-        number: 2,
         card: &[],
-        room: 1024,
+        ..WRITTEN
     },
     Case {
         name: "a pair too few",
-        field: FieldName::P251,
-        number: 2,
         card: ONE,
-        room: 1024,
+        ..WRITTEN
     },
     Case {
         name: "a pair too many",
-        field: FieldName::P251,
-        number: 2,
         card: THREE,
-        room: 1024,
+        ..WRITTEN
     },
     Case {
         name: "a pair too few over byte",
         field: FieldName::Byte,
-        number: 2,
         card: ONE,
-        room: 1024,
+        ..WRITTEN
     },
     Case {
         name: "value 250 and tag 63000",
-        field: FieldName::P251,
-        number: 2,
         card: LARGEST_P251,
-        room: 1024,
+        ..WRITTEN
     },
     Case {
         name: "value 251",
-        field: FieldName::P251,
-        number: 2,
         card: VALUE_251,
-        room: 1024,
+        ..WRITTEN
     },
     Case {
         name: "tag 63001",
-        field: FieldName::P251,
-        number: 2,
         card: TAG_63001,
-        room: 1024,
+        ..WRITTEN
     },
     Case {
         name: "codes of byte over p251",
-        field: FieldName::P251,
-        number: 2,
         card: LARGEST_BYTE,
-        room: 1024,
+        ..WRITTEN
     },
     Case {
         name: "value 255 and tag 65535 over byte",
         field: FieldName::Byte,
-        number: 2,
         card: LARGEST_BYTE,
-        room: 1024,
+        ..WRITTEN
     },
     Case {
         name: "value 256 over byte",
         field: FieldName::Byte,
-        number: 2,
         card: VALUE_256,
-        room: 1024,
+        ..WRITTEN
     },
     Case {
         name: "tag 65536 over byte",
         field: FieldName::Byte,
-        number: 2,
         card: TAG_65536,
-        room: 1024,
+        ..WRITTEN
     },
     Case {
         name: "the largest value",
         field: FieldName::Byte,
-        number: 2,
         card: VALUE_MOST,
-        room: 1024,
+        ..WRITTEN
     },
     Case {
         name: "the largest tag",
         field: FieldName::Byte,
-        number: 2,
         card: TAG_MOST,
-        room: 1024,
+        ..WRITTEN
     },
     Case {
         name: "no room",
-        field: FieldName::P251,
-        number: 2,
-        card: FINE,
         room: 0,
+        ..WRITTEN
     },
     Case {
         name: "room one byte too small",
-        field: FieldName::P251,
-        number: 2,
-        card: FINE,
         room: 1023,
+        ..WRITTEN
     },
     Case {
         name: "room one byte too small over byte",
         field: FieldName::Byte,
-        number: 2,
-        card: FINE,
         room: 1023,
+        ..WRITTEN
     },
-    Case {
-        name: "least room",
-        field: FieldName::P251,
-        number: 2,
-        card: FINE,
-        room: 1024,
-    },
+    WRITTEN,
     Case {
         name: "more room",
         field: FieldName::Byte,
-        number: 2,
-        card: FINE,
         room: 1100,
+        ..WRITTEN
     },
     Case {
         name: "number 0 and no pair",
-        field: FieldName::P251,
         number: 0,
         card: &[],
         room: 0,
+        ..WRITTEN
     },
     Case {
         name: "no pair and no room",
-        field: FieldName::P251,
-        number: 2,
         card: &[],
         room: 0,
+        ..WRITTEN
     },
     Case {
         name: "value 251 and no room",
-        field: FieldName::P251,
-        number: 2,
         card: VALUE_251,
         room: 0,
+        ..WRITTEN
+    },
+];
+
+// The largest text over each field, for n = 32 and d = 64: 64 pairs of the largest codes.
+pub const LARGEST: [Case<'static>; 2] = [
+    Case {
+        name: "largest over byte",
+        field: FieldName::Byte,
+        number: 32,
+        card: &[Pair {
+            value: 255,
+            tag: 65535,
+        }; 64],
+        room: 1024,
+    },
+    Case {
+        name: "largest over p251",
+        field: FieldName::P251,
+        number: 32,
+        card: &[Pair {
+            value: 250,
+            tag: 63000,
+        }; 64],
+        room: 1024,
     },
 ];

@@ -2,7 +2,7 @@
 ghost use Rattle.std.specs.Prelude.{◌≡◌, length, replicate, Decides};
 ghost use Rattle.text.specs.Card.{read_card};
 ghost use Rattle.text.specs.Shown.{shown};
-ghost use Rattle.texts.specs.Judged.{IsWrittenAs, four, held, reading_of};
+ghost use Rattle.texts.specs.Judged.{IsWrittenAs, held, reading_of};
 
 use crate::cases::Case;
 use scheme::Figures;
@@ -15,23 +15,14 @@ pub const WAS: u8 = 7;
 pub fn are_untouched(bytes: &[u8]) -> bool
     ensures { Decides result (bytes.now ≡ replicate (length bytes.now) 7) }
 {
-    for b in bytes {
-        if *b != WAS {
-            return false;
-        }
-    }
-    true
+    bytes.iter().all(|b| *b == WAS)
 }
 
 // Whether a buffer has the text at its front, and is as it was behind it.
 fn holds(buffer: &[u8], text: &[u8]) -> bool
     ensures { Decides result (buffer.now ≡ held (length buffer.now) text.now) }
 {
-    if text.len() > buffer.len() {
-        return false;
-    }
-    let (front, rest) = buffer.split_at(text.len());
-    front == text && are_untouched(rest)
+    buffer.strip_prefix(text).is_some_and(are_untouched)
 }
 
 // Whether the writer gives this text for a card that was read, and leaves the bytes behind it as they were.
@@ -39,45 +30,29 @@ pub fn is_written_as(card: &CardRead, text: &[u8]) -> bool
     ensures { Decides result (IsWrittenAs card.now text.now) }
 {
     let mut buffer = [WAS; 1100];
-    match write_card(
+    let answer = write_card(
         card.field(),
         &card.figures(),
         card.number(),
         card.card(),
         &mut buffer,
-    ) {
-        Ok(length) => length == text.len() && holds(&buffer, text),
-        Err(_) => false,
-    }
-}
-
-// Whether two figures are the same four numbers.
-fn are_same(f: &Figures, g: &Figures) -> bool
-    ensures { Decides result (four f.now ≡ four g.now) }
-{
-    f.n() == g.n() && f.k() == g.k() && f.t() == g.t() && f.d() == g.d()
+    );
+    matches!(answer, Ok(length) if length == text.len() && holds(&buffer, text))
 }
 
 // Whether a card that was read is the one of the case, with these figures.
 fn is_of(read: &CardRead, f: &Figures, case: &Case) -> bool
     ensures { Decides result (shown read.now ≡ reading_of f.now case.now) }
 {
-    if !are_same(&read.figures(), f) {
-        return false;
-    }
-    if read.field() != case.field {
-        return false;
-    }
-    if read.number() != case.number {
-        return false;
-    }
-    read.card() == case.card
+    (read.field(), read.figures(), read.number(), read.card())
+        == (case.field, *f, case.number, case.card)
 }
 
 // Whether the text is read as these figures and the card of the case.
 pub fn is_read_as(text: &[u8], f: &Figures, case: &Case) -> bool
     ensures { Decides result (read_card text.now ≡ Ok (reading_of f.now case.now)) }
 {
+    // a match, since a proof sees nothing of what a closure over a card that was read answers
     match CardReader::new(text).read() {
         Ok(read) => is_of(&read, f, case),
         Err(_) => false,

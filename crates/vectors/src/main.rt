@@ -134,6 +134,7 @@ fn show_square<F: Field>(rt: &HostRuntime, name: &str, a: u64) -> io::Result<()>
     }
 }
 
+// The inverses in each field.
 fn inverses(rt: &HostRuntime) -> io::Result<()> {
     show_inverses::<Byte>(rt, "byte")?;
     show_inverses::<P251>(rt, "p251")?;
@@ -160,6 +161,7 @@ fn times_inverse<F: Field>(n: u64) -> Option<u64> {
     Some(F::to_code(F::mul(x, F::inv(x))))
 }
 
+// Asks about figures, and shows the answer.
 fn show_figures(rt: &HostRuntime, n: u64, k: u64, t: u64, d: u64) -> io::Result<()> {
     match figures(n, k, t, d) {
         Ok(f) => println!(rt; "figures {},{},{},{} pass", f.n(), f.k(), f.t(), f.d()),
@@ -167,6 +169,7 @@ fn show_figures(rt: &HostRuntime, n: u64, k: u64, t: u64, d: u64) -> io::Result<
     }
 }
 
+// Makes the call `deal`, and shows the answer; refused, also whether the pairs are as they were.
 fn show_dealing(rt: &HostRuntime, case: &Case) -> io::Result<()> {
     let Ok(f) = figures(5, 4, 1, 1) else {
         return println!(rt; "no figures");

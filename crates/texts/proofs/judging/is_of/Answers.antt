@@ -1,22 +1,15 @@
-use Rattle.std.proofs.Common.{◌≡◌, sym, ◌∙◌, ap, rules}
+use Rattle.std.proofs.Common.{◌≡◌, sym, ◌∙◌, refl}
+use Rattle.std.proofs.lemmas.Bool.Decides.{Decides-at, Decides-like}
 use Rattle.std.proofs.lemmas.Slice.Eq.{slice_eq-Decides}
-use Rattle.std.proofs.lemmas.Bool.{not-false}
-use denote.Enum.Bare.{same_true}
-use Rattle.text.specs.Card.{Reading}
-use Rattle.text.specs.contracts.types.FieldName.{the_type}
-use Rattle.texts.specs.Judged.{four}
-use Rattle.texts.proofs.SamePairs.{pair_Decides}
+use Rattle.text.specs.RoundTrips.{reading_for}
+use Rattle.text.specs.Shown.{shown}
+use Rattle.texts.proofs.Same.{pair_Decides, reading_Decides}
 use Rattle.texts.proofs.judging.is_of.Goals as goal
 
 pub returns : goal.returns
 returns c =
-    let read = c.args.read.now in
-    let case = c.args.case.now in
-    let figures : four read.figures ≡ four c.args.f.now = ap four (sym c.figures.ensures) ∙ c.are_same.ensures.0 c.if-not-are_same.false in
-    let field : read.field ≡ case.field = sym c.field.ensures ∙ same_true the_type (search rules) _ _ (not-false _ (sym c.if-ne.ensures)) in
-    let number : read.number ≡ case.number = sym c.number.ensures ∙ c.if-number-case.false in
-    let same = slice_eq-Decides pair_Decides _ _ _ c.eq.ensures in (
-      λ h. let card = sym c.card.ensures ∙ same.0 h in
-          λ i. record { field = field i; figures = figures i; number = number i; card = card i },
-      λ e. same.1 (c.card.ensures ∙ ap (λ (r : Reading). r.card) e),
-    )
+    let told : reading_for c.field.result c.figures.result c.number.result c.card.result.now ≡ shown c.args.read.now =
+    λ i. reading_for (c.field.ensures i) (c.figures.ensures i) (c.number.ensures i) (c.card.ensures i) in
+    let cards = slice_eq-Decides pair_Decides c.card.result.now c.args.case.now.card.now _ refl in
+    Decides-like c.eq.result (λ e. sym told ∙ e) (λ e. told ∙ e)
+    (Decides-at _ _ c.eq.ensures (reading_Decides _ _ c.figures.result c.args.f.now _ _ _ _ _ cards))
