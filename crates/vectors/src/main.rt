@@ -34,12 +34,12 @@ struct Case {
     room: usize,
 }
 
-// A case that is dealt; the others tell where they differ from it.
-const DEALT: Case = Case {
-    name: "highest tag coefficient 0",
+// The worked example; each case tells where it differs from it.
+const WORKED: Case = Case {
+    name: "the worked example",
     key: &[7],
     values: &[1, 0, 2],
-    tags: &[5, 0],
+    tags: &[5, 3],
     room: 5,
 };
 
@@ -48,51 +48,55 @@ const DEALINGS: [Case; 10] = [
     Case {
         name: "a key symbol too many",
         key: &[7, 7],
-        ..DEALT
+        ..WORKED
     },
     Case {
         name: "a value coefficient too few",
         values: &[1, 0],
-        ..DEALT
+        ..WORKED
     },
     Case {
         name: "a tag coefficient too few",
         tags: &[5],
-        ..DEALT
+        ..WORKED
     },
     Case {
         name: "a pair too few",
         room: 4,
-        ..DEALT
+        ..WORKED
     },
     Case {
         name: "key symbol 251",
         key: &[251],
-        ..DEALT
+        ..WORKED
     },
     Case {
         name: "value coefficient 251",
         values: &[251, 0, 2],
-        ..DEALT
+        ..WORKED
     },
     Case {
         name: "tag coefficient 63001",
         tags: &[5, 63001],
-        ..DEALT
+        ..WORKED
     },
     Case {
         name: "highest value coefficient 0",
         values: &[1, 2, 0],
-        ..DEALT
+        ..WORKED
     },
     Case {
         name: "largest codes",
         key: &[250],
         values: &[250, 250, 250],
         tags: &[63000, 63000],
-        ..DEALT
+        ..WORKED
     },
-    DEALT,
+    Case {
+        name: "highest tag coefficient 0",
+        tags: &[5, 0],
+        ..WORKED
+    },
 ];
 
 fn main(rt: HostRuntime) -> io::Result<()> {
