@@ -1,6 +1,6 @@
 -- The inverse of a code by what it means, for every product.
 -- Assumes nothing.
-use Rattle.std.specs.Prelude.{◌≡◌, ℕ, zero, suc, ◌<◌, cond, ◌==◌, ◌≢◌}
+use Rattle.std.specs.Prelude.{◌≡◌, ℕ, zero, suc, ◌<◌, cond, List, ◌==◌, ◌≢◌, slice_index}
 use Rattle.fields.specs.Laws.{Codes}
 
 -- a number b below n with a·b = 1, and 0 where there is none; in a field there is at most one
@@ -18,3 +18,7 @@ pub record InverseOf (C : Codes) (a b : ℕ) : Type 0 where
   pub below : b < C.size
   pub of_zero : a ≡ 0 → b ≡ 0
   pub of_others : (a ≢ 0) → C.product a b ≡ 1
+
+-- the table has at each code its inverse
+unfoldable pub InverseTable : Codes → List ℕ → Type 0
+InverseTable C table = (a : ℕ) → a < C.size → InverseOf C a (slice_index table a)

@@ -1,12 +1,12 @@
 -- The inverse by what it means: it is found where there is one, it is the only one, and a table of inverses has it.
 -- Assumes nothing.
-use Rattle.std.specs.Prelude.{◌≡◌, ℕ, zero, suc, ◌<◌, ◌==◌, ◌≢◌}
+use Rattle.std.specs.Prelude.{◌≡◌, ℕ, zero, suc, ◌<◌, List, ◌==◌, ◌≢◌, slice_index}
 use Rattle.std.proofs.Math.Path.{refl}
 use Rattle.std.proofs.Common.{sym, ◌∙◌, ap, ⊎_elim, eq-or-lt_of_le, le_of_suc-le-suc, not-suc-le-zero, arith}
 use Rattle.std.proofs.lemmas.Bool.{cond_both, eqb-true, eqb-false, cases_eq}
 use Rattle.fields.specs.Elements.{one_below}
 use Rattle.fields.specs.Laws.{Codes, Laws}
-use Rattle.fields.specs.Inverse.{inverse_under, InverseOf}
+use Rattle.fields.specs.Inverse.{inverse_under, InverseOf, InverseTable}
 
 module _ (product : ℕ → ℕ → ℕ) where
   pub found : (n a b : ℕ) → b < n → product a b ≡ 1 → product a (inverse_under n product a) ≡ 1
@@ -43,3 +43,13 @@ module _ {C : Codes} (L : Laws C) where
   inverse_is a b h i =
       ⊎_elim (λ e. i.of_zero e ∙ sym (ap C.inverse e ∙ L.inverse_zero))
       (λ n. only a b (C.inverse a) h i.below (L.inverse_below a h) (i.of_others n) (L.product_inverse a h n)) (cases_eq a 0)
+
+  -- a table of the inverses has their rule
+  pub table_of_inverses : (table : List ℕ) → ((a : ℕ) → a < C.size → slice_index table a ≡ C.inverse a) → InverseTable C table
+  unfolding InverseTable
+  table_of_inverses table h a l =
+      rw (h a l) (record {
+        below = L.inverse_below a l;
+        of_zero = λ e. ap C.inverse e ∙ L.inverse_zero;
+        of_others = L.product_inverse a l;
+      })

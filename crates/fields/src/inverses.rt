@@ -1,4 +1,8 @@
-// The inverses of the two fields, by code; the entry at 0 is 0. Their rule is proved over the whole of each table.
+// The inverses of the two fields, by code; the entry at 0 is 0.
+ghost use Rattle.fields.specs.Byte.{byte as byteCodes};
+ghost use Rattle.fields.specs.Inverse.{InverseTable};
+ghost use Rattle.fields.specs.P251.{p251 as p251Codes};
+ghost use Rattle.fields.specs.declared.inverses.TheConstants.{BYTE, P251};
 
 pub static BYTE: [u8; 256] = [
     0, 1, 141, 246, 203, 82, 123, 209, 232, 79, 41, 192, 176, 225, 229, 199, 116, 180, 170, 75,
@@ -31,3 +35,9 @@ pub static P251: [u8; 251] = [
     115, 120, 57, 239, 138, 66, 237, 59, 47, 184, 233, 193, 230, 114, 25, 223, 94, 215, 209, 50,
     188, 167, 125, 250,
 ];
+
+// The rule of the tables, shown over every entry. The function computes nothing: its contract is the theorem.
+pub fn tables_hold_inverses()
+    ensures byte { InverseTable byteCodes BYTE }
+    ensures p251 { InverseTable p251Codes P251 }
+{}

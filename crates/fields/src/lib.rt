@@ -11,5 +11,6 @@ mod symbol;
 pub use byte::Byte;
 pub use doubled::{Doubled, Twice};
 pub use field::{Doublable, Field};
+pub use inverses::tables_hold_inverses;
 pub use p251::P251;
 pub use symbol::Symbol;
