@@ -1,4 +1,4 @@
--- The inverse by what it means: it is found where there is one, it is the only one, and a table of inverses has it.
+-- The inverse by what it means: it is found where there is one, and it is the only one.
 -- Assumes nothing.
 use Rattle.std.specs.Prelude.{◌≡◌, ℕ, zero, suc, ◌<◌, List, ◌==◌, ◌≢◌, slice_index}
 use Rattle.std.proofs.Math.Path.{refl}
