@@ -1,10 +1,10 @@
 -- A buffer that begins with a text, and the rest behind it.
 -- Assumes nothing.
-use Rattle.std.proofs.Common.{◌≡◌, ◌≢◌, ℕ, ◌-◌, Bool, true, false, List, ◌++◌, length, replicate, Option, Some, None, MatchOption, Bor, Decides, sym, ap, ◌∙◌}
+use Rattle.std.proofs.Common.{◌≡◌, ◌≢◌, ℕ, ◌-◌, Bool, false, List, ◌++◌, length, replicate, Option, Some, None, MatchOption, Bor, Decides, sym, ap, ◌∙◌}
 use Rattle.std.proofs.lemmas.Bool.{false≢true}
 use Rattle.std.proofs.lemmas.Bool.Decides.{Decides-like}
 use Rattle.std.proofs.Math.Nat.{add-sub_cancel_left}
-use Rattle.std.proofs.lemmas.List.{length-append, length-replicate, append_cancel_left}
+use Rattle.std.proofs.lemmas.List.{length-append, append_cancel_left}
 use Rattle.texts.specs.Judged.{held}
 
 module _ (buffer text rest : List ℕ) (cut : buffer ≡ text ++ rest) where
