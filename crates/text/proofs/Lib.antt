@@ -3,7 +3,7 @@ pub mod Digits
 pub mod Pieces
 pub mod Pairing
 pub mod Lengths
-pub mod Writable
+pub mod Passing
 pub mod LinesBack
 pub mod NumbersBack
 pub mod LinesTold

@@ -1,14 +1,14 @@
--- A card that passed the questions can be written, and what the writer then leaves.
+-- What passing the questions tells of a card.
 -- Assumes nothing.
 use Rattle.std.proofs.Common.{◌≡◌, ℕ, ◌*◌, ◌<◌, ◌≤◌, List, length, None, lit≤}
 use Rattle.std.specs.List.{AllByRecursion}
-use Rattle.std.proofs.lemmas.Bool.{and_parts, eqb-true, le-leb, leb-true, ltb-true}
+use Rattle.std.proofs.lemmas.Bool.{and_parts, eqb-true, leb-true, ltb-true}
 use Rattle.scheme.specs.declared.types.Figures.{Figures}
 use Rattle.scheme.specs.declared.types.Pair.{Pair}
 use Rattle.scheme.proofs.Acceptance.{all_yes}
 use Rattle.scheme.proofs.Asking.{all_from_every}
 use Rattle.runs.specs.Cards.{card_questions, card_refusal, is_coded_lem}
-use Rattle.text.specs.Card.{codes_of, write_refusal}
+use Rattle.text.specs.Card.{codes_of}
 use Rattle.text.specs.declared.types.FieldName.{FieldName}
 use Rattle.text.specs.declared.types.FieldName.TheVariants.{Byte, P251}
 
@@ -34,10 +34,3 @@ module _ (field : FieldName) (f : Figures) (number : ℕ) (card : List Pair) (un
         pairs = eqb-true _ _ answers.1.0;
         codes = all_from_every (is_coded_lem (codes_of field)) _ (λ pair t. let p = and_parts _ _ t in (ltb-true _ _ p.0, ltb-true _ _ p.1)) card answers.1.1.0;
       }
-
--- the writer's questions are those about the card, and then the room
-pub no_write_refusal : (field : FieldName) (f : Figures) (number : ℕ) (card : List Pair) → card_refusal (codes_of field) f number card ≡ None
-    → (room : ℕ) → 1024 ≤ room → write_refusal field f number card room ≡ None
-no_write_refusal field f number card unrefused room h =
-    let answers = all_yes (card_questions (codes_of field) f number card) unrefused in
-    rw (answers.0, answers.1.0, answers.1.1.0, le-leb 1024 room h)
