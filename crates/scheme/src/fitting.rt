@@ -51,14 +51,7 @@ fn passes<F: Field>(f: &Polynomial<F::Elem>, p: &Point<F::Elem>) -> bool
 fn agreements<F: Field>(f: &Polynomial<F::Elem>, points: &[Point<F::Elem>]) -> usize
     ensures { result ≡ agreementsOf F.codes (point_codes F.code points.now) (polynomial_told F.code f.now) }
 {
-    points
-        .iter()
-        .filter(
-            |p|
-                ensures { result ≡ passesThrough F.codes (polynomial_told F.code f.entry.now) (F.code p.now.now.x, F.code p.now.now.y) }
-            { passes::<F>(f, p) },
-        )
-        .count()
+    points.iter().filter(|p| passes::<F>(f, p)).count()
 }
 
 // Whether f has t + 1 coefficients and passes through all but at most t of the points.
