@@ -27,7 +27,7 @@ pub struct Sealed<F> {
 }
 
 // Which question about a card was answered with no.
-#[derive(Clone, Copy)]
+#[derive(Clone, Copy, Debug, PartialEq, Eq)]
 pub enum CardFault {
     // the number is not from 1 to n
     Number,

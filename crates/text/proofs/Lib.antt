@@ -2,10 +2,8 @@ pub mod Refused
 pub mod Digits
 pub mod Pieces
 pub mod Pairing
-pub mod Spelling
-pub mod Overwriting
-pub mod Words
-pub mod Writable
+pub mod Lengths
+pub mod Passing
 pub mod LinesBack
 pub mod NumbersBack
 pub mod LinesTold

@@ -22,9 +22,8 @@ use Rattle.text.specs.declared.types.FieldName.TheVariants.{Byte, P251}
 use Rattle.text.proofs.LinesBack.{Good, Goods, lines_read}
 use Rattle.text.proofs.LinesTold.{named_back}
 use Rattle.text.proofs.NumbersBack.{decimal_digits, decimal_is_number, value_back, listed_is_list, numbers_back, listed_bytes}
-use Rattle.text.proofs.Overwriting.{length_listed}
-use Rattle.text.proofs.Writable.{Passed, passed, size_small}
-use Rattle.text.proofs.Words.{word_short, name_short}
+use Rattle.text.proofs.Passing.{Passed, passed, size_small}
+use Rattle.text.proofs.Lengths.{word_short, name_short, length_listed}
 use Rattle.runs.proofs.Lists.{no_refusal}
 use Rattle.text.specs.Refusals.{unless_faulty}
 use Rattle.text.proofs.Refused.{no_fault}

@@ -1,27 +1,29 @@
--- What the inner functions of the writer leave in a buffer.
+-- What is written behind the text of a card so far.
 -- Assumes nothing.
-use Rattle.std.specs.Prelude.{◌≡◌, ℕ, ◌+◌, ◌<◌, ◌≤◌, List, length}
-use Rattle.std.proofs.Math.Seq.{paste}
-use Rattle.std.specs.List.{AllByRecursion}
+use Rattle.std.specs.Prelude.{◌≡◌, ℕ, ◌+◌, ◌≤◌, List, [], ◌∷◌, ◌++◌, length, decimal}
+use Rattle.scheme.specs.declared.types.Figures.{Figures}
 use Rattle.scheme.specs.declared.types.Pair.{Pair}
+use Rattle.text.specs.Lines.{field_name, written}
+use Rattle.text.specs.declared.putting.CardText.{CardText}
+use Rattle.text.specs.declared.types.FieldName.{FieldName}
 use Rattle.text.specs.declared.types.Half.{Half}
 use Rattle.text.specs.declared.types.Half.TheVariants.{Value, Tag}
+use Rattle.text.specs.declared.types.Key.TheVariants.{Field, Participants, Threshold, Altered, Symbols}
 
--- the buffer, which held `before`, holds the bytes from the place `at` on, and they end before the place `end`
-pub record Put (before : List ℕ) (at : ℕ) (bytes : List ℕ) (end : ℕ) (after : List ℕ) : Type 0 where
-  pub place : end ≡ at + length bytes
-  pub held : after ≡ paste before at bytes (length bytes)
+-- there is room for these bytes
+abbrev pub HasRoom : CardText → List ℕ → Type 0
+HasRoom text bytes = length text.bytes.items + length bytes ≤ 1024
 
--- the number of a pair that a list has
+-- the old text and then these bytes are the new text
+abbrev pub Extends : CardText → List ℕ → CardText → Type 0
+Extends old bytes new = new.bytes.items ≡ old.bytes.items ++ bytes
+
+-- this number of a pair
 abbrev pub picked : Half → Pair → ℕ
 picked Value pair = pair.value
 picked Tag pair = pair.tag
 
--- a card that passed the questions is small enough for the buffer
-pub record Writable (number : ℕ) (card : List Pair) (buffer : List ℕ) : Type 0 where
-  pub number_small : number ≤ 32
-  pub some : 1 ≤ length card
-  pub few : length card ≤ 64
-  pub values_small : AllByRecursion (λ pair. picked Value pair < 100000) card
-  pub tags_small : AllByRecursion (λ pair. picked Tag pair < 100000) card
-  pub room : 1024 ≤ length buffer
+-- the five lines that tell of a scheme
+abbrev pub scheme_lines : FieldName → Figures → List ℕ
+scheme_lines field f =
+    written (Field ∷ Participants ∷ Threshold ∷ Altered ∷ Symbols ∷ []) (field_name field ∷ decimal f.n ∷ decimal f.k ∷ decimal f.t ∷ decimal f.d ∷ [])

@@ -1,138 +1,116 @@
-// Bytes, numbers and lists of numbers put into a buffer.
-ghost use Rattle.std.specs.Prelude.{◌≡◌, ◌+◌, ◌*◌, ◌<◌, ◌≤◌, ◌∷◌, map, length, drop, decimal};
-ghost use Rattle.std.specs.List.{AllByRecursion};
+// The text of a card, line by line.
+ghost use Rattle.std.specs.Prelude.{◌≡◌, [], map};
 ghost use Rattle.text.specs.Lines.{written_line};
-ghost use Rattle.text.specs.Numbers.{listed, others};
-ghost use Rattle.text.specs.Writing.{Put, picked};
+ghost use Rattle.text.specs.Numbers.{listed};
+ghost use Rattle.text.specs.Writing.{Extends, HasRoom, picked, scheme_lines};
 
-use crate::types::{Digits, Half, Key};
-use scheme::Pair;
+use crate::types::{FieldName, Half, Key};
+use arrayvec::ArrayVec;
+use itoa::{Buffer, Integer};
+use scheme::{Figures, Pair};
 
-// The digits of a number of at most ten.
-pub(crate) fn digits(n: u64) -> Digits
-    requires { n < 10000000000 }
-    ensures { drop result.start result.bytes ≡ decimal n }
-{
-    let mut bytes = [b'0'; 10];
-    let mut start = 9;
-    let mut left = n;
-    while left >= 10 {
-        bytes[start] = b'0' + (left % 10) as u8;
-        left /= 10;
-        start -= 1;
-    }
-    bytes[start] = b'0' + left as u8;
-    Digits { bytes, start }
+// The text of a card, or a part of it, while it is written: at most 1,024 bytes.
+#[derive(Drop)]
+pub(crate) struct CardText {
+    bytes: ArrayVec<u8, 1024>,
 }
 
-impl Digits {
-    // the digits alone
-    pub(crate) fn shown(&self) -> &[u8]
-        ensures { result.now ≡ drop self.now.start self.now.bytes }
+impl Half {
+    // this number of a pair (a closure in its place needs clauses that it may be called and what it answers)
+    fn of(self, pair: &Pair) -> u64
+        ensures { result ≡ picked self pair.now }
     {
-        &self.bytes[self.start..]
+        match self {
+            Half::Value => pair.value,
+            Half::Tag => pair.tag,
+        }
     }
 }
 
-// Puts bytes into the buffer from the place `at` on, and answers the place behind them.
-pub(crate) fn put(buffer: &mut [u8], at: usize, bytes: &[u8]) -> usize
-    requires { at + length bytes.now ≤ length buffer.old }
-    ensures { Put buffer.old at bytes.now result buffer.new }
-{
-    let end = at + bytes.len();
-    let part = &mut buffer[at..end];
-    part.copy_from_slice(bytes);
-    end
-}
-
-// Puts a line with this key and content, and answers the place behind it.
-pub(crate) fn put_line(buffer: &mut [u8], at: usize, key: Key, content: &[u8]) -> usize
-    requires { at + length content.now + 7 ≤ length buffer.old }
-    ensures line { Put buffer.old at (written_line key content.now) result buffer.new }
-    ensures bound { result ≤ at + length content.now + 7 }
-{
-    let behind_key = put(buffer, at, key.word());
-    let behind_content = put(buffer, behind_key, content);
-    put(buffer, behind_content, b"\n")
-}
-
-// The number of a pair that a list has.
-fn pick(half: Half, pair: Pair) -> u64
-    ensures { result ≡ picked half pair }
-{
-    match half {
-        Half::Value => pair.value,
-        Half::Tag => pair.tag,
+impl CardText {
+    // a text with no bytes yet
+    pub(crate) fn new() -> CardText
+        ensures { result.bytes.items ≡ [] }
+    {
+        CardText {
+            bytes: ArrayVec::new(),
+        }
     }
-}
 
-// Puts the digits of a number of at most five, and answers the place behind them.
-fn put_number(buffer: &mut [u8], at: usize, n: u64) -> usize
-    requires { (n < 100000) × (at + 5 ≤ length buffer.old) }
-    ensures { Put buffer.old at (decimal n) result buffer.new }
-{
-    let number = digits(n);
-    put(buffer, at, number.shown())
-}
-
-// Puts a comma and a number, and answers the place behind them.
-fn put_next(buffer: &mut [u8], at: usize, n: u64) -> usize
-    requires { (n < 100000) × (at + 6 ≤ length buffer.old) }
-    ensures { Put buffer.old at (44 ∷ decimal n) result buffer.new }
-{
-    let behind_comma = put(buffer, at, b",");
-    put_number(buffer, behind_comma, n)
-}
-
-// Puts a comma and a number for each of the pairs, and answers the place behind them.
-fn put_others(buffer: &mut [u8], at: usize, half: Half, pairs: &[Pair]) -> usize
-    requires room { at + 6 * length pairs.now ≤ length buffer.old }
-    requires small { AllByRecursion (λ pair. picked half pair < 100000) pairs.now }
-    ensures { Put buffer.old at (others (map (picked half) pairs.now)) result buffer.new }
-{
-    let mut end = at;
-    for i in 0..pairs.len() {
-        end = put_next(buffer, end, pick(half, pairs[i]));
+    // the bytes so far
+    pub(crate) fn as_slice(&self) -> &[u8]
+        ensures { result.now ≡ self.now.bytes.items }
+    {
+        self.bytes.as_slice()
     }
-    end
-}
 
-// Puts the numbers of a card, separated by commas, and answers the place behind them.
-pub(crate) fn put_numbers(buffer: &mut [u8], at: usize, half: Half, card: &[Pair]) -> usize
-    requires some { 1 ≤ length card.now }
-    requires room { at + 6 * length card.now ≤ length buffer.old }
-    requires small { AllByRecursion (λ pair. picked half pair < 100000) card.now }
-    ensures { Put buffer.old at (listed (map (picked half) card.now)) result buffer.new }
-{
-    let behind_first = put_number(buffer, at, pick(half, card[0]));
-    put_others(buffer, behind_first, half, &card[1..])
-}
+    // appends bytes, for which there must be room
+    fn push(&mut self, bytes: &[u8])
+        requires { HasRoom self.old bytes.now }
+        ensures { Extends self.old bytes.now self.new }
+    {
+        self.bytes.try_extend_from_slice(bytes).unwrap();
+    }
 
-// Puts a line with this key and number, and answers the place behind it.
-pub(crate) fn put_number_line(buffer: &mut [u8], at: usize, key: Key, n: u64) -> usize
-    requires { (n < 10000000000) × (at + 17 ≤ length buffer.old) }
-    ensures line { Put buffer.old at (written_line key (decimal n)) result buffer.new }
-    ensures bound { result ≤ at + 17 }
-{
-    let number = digits(n);
-    put_line(buffer, at, key, number.shown())
-}
+    // appends the digits of a number
+    fn push_number<N: Integer>(&mut self, n: N)
+        requires { HasRoom self.old (N.text n) }
+        ensures { Extends self.old (N.text n) self.new }
+    {
+        self.push(Buffer::new().format(n).as_bytes());
+    }
 
-// Puts a line with this key and the numbers of a card, and answers the place behind it.
-pub(crate) fn put_list_line(
-    buffer: &mut [u8],
-    at: usize,
-    key: Key,
-    half: Half,
-    card: &[Pair],
-) -> usize
-    requires some { 1 ≤ length card.now }
-    requires room { at + 6 * length card.now + 7 ≤ length buffer.old }
-    requires small { AllByRecursion (λ pair. picked half pair < 100000) card.now }
-    ensures line { Put buffer.old at (written_line key (listed (map (picked half) card.now))) result buffer.new }
-    ensures bound { result ≤ at + 6 * length card.now + 7 }
-{
-    let behind_key = put(buffer, at, key.word());
-    let behind_list = put_numbers(buffer, behind_key, half, card);
-    put(buffer, behind_list, b"\n")
+    // appends the values or the tags of a card, separated by commas
+    fn push_list(&mut self, half: Half, card: &[Pair])
+        requires { HasRoom self.old (listed (map (picked half) card.now)) }
+        ensures { Extends self.old (listed (map (picked half) card.now)) self.new }
+    {
+        if let Some((first, others)) = card.split_first() {
+            self.push_number(half.of(first));
+            for pair in others {
+                self.push(b",");
+                self.push_number(half.of(pair));
+            }
+        }
+    }
+
+    // appends a line with this key and content
+    pub(crate) fn push_line(&mut self, key: Key, content: &[u8])
+        requires { HasRoom self.old (written_line key content.now) }
+        ensures { Extends self.old (written_line key content.now) self.new }
+    {
+        self.push(key.word());
+        self.push(content);
+        self.push(b"\n");
+    }
+
+    // appends a line with this key and number
+    pub(crate) fn push_number_line<N: Integer>(&mut self, key: Key, n: N)
+        requires { HasRoom self.old (written_line key (N.text n)) }
+        ensures { Extends self.old (written_line key (N.text n)) self.new }
+    {
+        self.push_line(key, Buffer::new().format(n).as_bytes());
+    }
+
+    // appends a line with this key and the values or the tags of a card
+    pub(crate) fn push_list_line(&mut self, key: Key, half: Half, card: &[Pair])
+        requires { HasRoom self.old (written_line key (listed (map (picked half) card.now))) }
+        ensures { Extends self.old (written_line key (listed (map (picked half) card.now))) self.new }
+    {
+        let mut list = CardText::new();
+        list.push_list(half, card);
+        self.push_line(key, list.as_slice());
+    }
+
+    // appends the five lines that tell of a scheme
+    pub(crate) fn push_scheme_lines(&mut self, field: FieldName, figures: &Figures)
+        requires { HasRoom self.old (scheme_lines field figures.now) }
+        ensures { Extends self.old (scheme_lines field figures.now) self.new }
+    {
+        self.push_line(Key::Field, field.word());
+        self.push_number_line(Key::Participants, figures.n());
+        self.push_number_line(Key::Threshold, figures.k());
+        self.push_number_line(Key::Altered, figures.t());
+        self.push_number_line(Key::Symbols, figures.d());
+    }
 }

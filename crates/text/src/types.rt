@@ -116,16 +116,8 @@ pub(crate) enum Half {
     Tag,
 }
 
-// The digits of a number, at the end of ten bytes.
-#[derive(Clone, Copy)]
-pub(crate) struct Digits {
-    pub(crate) bytes: [u8; 10],
-    pub(crate) start: usize,
-    ghost within: { start ≤ 10 },
-}
-
 // Why a card is not written.
-#[derive(Clone, Copy)]
+#[derive(Clone, Copy, Debug, PartialEq, Eq)]
 pub enum WriteFault {
     // the card is refused
     Card(CardFault),

@@ -1,14 +1,13 @@
 // The writer of card texts.
-ghost use Rattle.std.specs.Prelude.{◌≡◌, ◌≤◌, IfOk};
+ghost use Rattle.std.specs.Prelude.{◌≡◌, ◌≤◌, length, IfOk};
 ghost use Rattle.runs.specs.Cards.{card_refusal};
 ghost use Rattle.sitting.specs.Faults.{card_told};
 ghost use Rattle.text.specs.Card.{card_text, codes_of, write_card_lem};
 ghost use Rattle.text.specs.Faults.{write_number};
 ghost use Rattle.text.specs.Shown.{write_told};
-ghost use Rattle.text.specs.Writing.{Put, Writable};
 ghost use Rattle.text.specs.declared.types.WriteFault.TheVariants.{Card};
 
-use crate::putting::{put_line, put_list_line, put_number_line};
+use crate::putting::CardText;
 use crate::types::{FieldName, Half, Key, WriteFault};
 use fields::{Byte, P251};
 use scheme::{Figures, Pair};
@@ -34,7 +33,7 @@ impl WriteFault {
     }
 }
 
-// Puts the questions about a card over the field of this name.
+// Puts the questions about a card over the field of this name. (`ask_card` takes the field as a type, so a match names each.)
 fn ask_named(
     field: FieldName,
     figures: &Figures,
@@ -49,26 +48,17 @@ fn ask_named(
     }
 }
 
-// Puts the text of a card at the front of the buffer, and answers its length.
-fn put_card(
-    buffer: &mut [u8],
-    field: FieldName,
-    figures: &Figures,
-    number: u64,
-    card: &[Pair],
-) -> usize
-    requires { Writable number card.now buffer.old }
-    ensures text { Put buffer.old 0 (card_text field figures.now number card.now) result buffer.new }
-    ensures bound { result ≤ 1024 }
+// The text of a card.
+fn text_of(field: FieldName, figures: &Figures, number: u64, card: &[Pair]) -> CardText
+    requires { length (card_text field figures.now number card.now) ≤ 1024 }
+    ensures { result.bytes.items ≡ card_text field figures.now number card.now }
 {
-    let one = put_line(buffer, 0, Key::Field, field.word());
-    let two = put_number_line(buffer, one, Key::Participants, figures.n() as u64);
-    let three = put_number_line(buffer, two, Key::Threshold, figures.k() as u64);
-    let four = put_number_line(buffer, three, Key::Altered, figures.t() as u64);
-    let five = put_number_line(buffer, four, Key::Symbols, figures.d() as u64);
-    let six = put_number_line(buffer, five, Key::Card, number);
-    let seven = put_list_line(buffer, six, Key::Values, Half::Value, card);
-    put_list_line(buffer, seven, Key::Tags, Half::Tag, card)
+    let mut text = CardText::new();
+    text.push_scheme_lines(field, figures);
+    text.push_number_line(Key::Card, number);
+    text.push_list_line(Key::Values, Half::Value, card);
+    text.push_list_line(Key::Tags, Half::Tag, card);
+    text
 }
 
 // Writes the text of a card to the front of the buffer, and answers its length; refused, it leaves the buffer as it was.
@@ -86,5 +76,8 @@ pub fn write_card(
     if buffer.len() < 1024 {
         return Err(WriteFault::Buffer);
     }
-    Ok(put_card(buffer, field, figures, number, card))
+    let text = text_of(field, figures, number, card);
+    let bytes = text.as_slice();
+    buffer[..bytes.len()].copy_from_slice(bytes);
+    Ok(bytes.len())
 }
