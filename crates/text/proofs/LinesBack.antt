@@ -8,23 +8,15 @@ use Rattle.std.proofs.lemmas.List.{take-append-drop, take_at, drop_at}
 use Rattle.std.proofs.lemmas.Bool.{and_parts}
 use Rattle.text.specs.Refusals.{first_fault, unless_faulty}
 use Rattle.text.proofs.Refused.{all_passed}
-use Rattle.text.specs.Lines.{key_word, kind_of, in_content, is_content, begins, line, lines, with_content, and_then, written_line, written}
+use Rattle.text.specs.Lines.{Kind, Name, Number, Numbers, OptionalNumbers, key_word, kind_of, in_content, is_content, begins, line, lines, with_content, and_then, written_line, written}
 use Rattle.text.specs.declared.types.Key.{Key}
-use Rattle.text.specs.declared.types.Key.TheVariants.{Field, Participants, Threshold, Altered, Symbols, Card, Values, Tags, Secret, ValueCoefficients, TagCoefficients}
 
 -- a line ends at its byte 10
-ends_at_10 : (key : Key) → in_content (kind_of key) 10 ≡ false
-ends_at_10 Field = refl
-ends_at_10 Participants = refl
-ends_at_10 Threshold = refl
-ends_at_10 Altered = refl
-ends_at_10 Symbols = refl
-ends_at_10 Card = refl
-ends_at_10 Values = refl
-ends_at_10 Tags = refl
-ends_at_10 Secret = refl
-ends_at_10 ValueCoefficients = refl
-ends_at_10 TagCoefficients = refl
+ends_at_10 : (kind : Kind) → in_content kind 10 ≡ false
+ends_at_10 Name = refl
+ends_at_10 Number = refl
+ends_at_10 Numbers = refl
+ends_at_10 OptionalNumbers = refl
 
 same_itself : (bytes : List ℕ) → bytes_eq bytes bytes ≡ true
 same_itself bytes = (bytes_eq-Decides bytes bytes).1 refl
@@ -58,7 +50,7 @@ module _ (at : ℕ) (key : Key) (content rest : List ℕ) (good : Good key conte
   behind = drop_at (key_word key) (content ++ (10 ∷ rest)) (length (key_word key)) refl
 
   run : prefix_len (in_content (kind_of key)) (content ++ (10 ∷ rest)) ≡ length content
-  run = leading_all (in_content (kind_of key)) content rest 10 good.bytes (ends_at_10 key)
+  run = leading_all (in_content (kind_of key)) content rest 10 good.bytes (ends_at_10 (kind_of key))
 
   -- a line that was written is read
   pub line_read : line at key (written_line key content ++ rest) ≡ Ok (content, rest)

@@ -10,6 +10,7 @@ use Rattle.std.proofs.lemmas.Bool.{and_parts, and_from, and_left, and_right, or_
 use Rattle.std.proofs.lemmas.Bool.Decides.{nat_tests}
 use Rattle.std.proofs.lemmas.List.Splits.{slice_split_none, slice_split_at, join_with_byte-slice_split}
 use Rattle.std.proofs.lemmas.List.Sums.{AllPass-from_list_all}
+use Rattle.std.proofs.lemmas.List.Folds.{list_all-append}
 use Rattle.text.specs.Numbers.{digits_value, is_number, pieces, is_list, number_told, numbers_in, optional_numbers_in, others, listed}
 use Rattle.text.proofs.Digits.{numerals, number_parts}
 
@@ -78,21 +79,17 @@ module _ (numbers : List ℕ) (some : 1 ≤ length numbers) (small : AllByRecurs
   pub numbers_back : numbers_in (listed numbers) ≡ numbers
   numbers_back = ap (map digits_value) (pieces_listed numbers some small) ∙ values_back numbers small
 
-list_all_append : {A : Type 0} (test : A → Bool) (a b : List A) → list_all test a ≡ true → list_all test b ≡ true → list_all test (a ++ b) ≡ true
-list_all_append test [] b p q = q
-list_all_append test (x ∷ a) b p q = let r = and_parts _ _ p in and_from _ _ r.0 (list_all_append test a b r.1 q)
-
 -- its bytes are digits and commas
 pub listed_bytes : (numbers : List ℕ) → AllByRecursion (λ n. n < 10000000000) numbers → list_all (λ b. is_ascii_digit b || eqb b 44) (listed numbers) ≡ true
 listed_bytes [] small = refl
-listed_bytes (n ∷ numbers) small = list_all_append _ (decimal n) (others numbers) (of_number n small.0) (of_others numbers small.1)
+listed_bytes (n ∷ numbers) small = list_all-append _ (decimal n) (others numbers) ∙ and_from _ _ (of_number n small.0) (of_others numbers small.1)
   where
     of_number : (m : ℕ) → m < 10000000000 → list_all (λ b. is_ascii_digit b || eqb b 44) (decimal m) ≡ true
     of_number m h = list_all_weaker is_ascii_digit _ (λ b e. or_left (is_ascii_digit b) (eqb b 44) e) (decimal m) (decimal_digits m h)
 
     of_others : (list : List ℕ) → AllByRecursion (λ m. m < 10000000000) list → list_all (λ b. is_ascii_digit b || eqb b 44) (others list) ≡ true
     of_others [] a = refl
-    of_others (m ∷ list) a = list_all_append _ (decimal m) (others list) (of_number m a.0) (of_others list a.1)
+    of_others (m ∷ list) a = list_all-append _ (decimal m) (others list) ∙ and_from _ _ (of_number m a.0) (of_others list a.1)
 
 -- lists, read and written
 

@@ -63,9 +63,6 @@ impl<'a> Content<'a> for Option<NumberList<'a>> {
         if run.is_empty() {
             return Some(None);
         }
-        match NumberList::new(run) {
-            Some(list) => Some(Some(list)),
-            None => None,
-        }
+        NumberList::new(run).map(Some)
     }
 }

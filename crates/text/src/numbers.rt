@@ -62,7 +62,8 @@ impl<'a> NumberList<'a> {
         self.text.split(|b| *b == b',').count()
     }
 
-    // Copies its numbers into a buffer with a place for each.
+    // Copies its numbers into a buffer with a place for each. (It writes by index: of what is written through `iter_mut` a proof
+    // knows only how many items there are.)
     fn copy_into(&self, numbers: &mut [u64])
         requires { length (numbers_in self.now.text.now) ≡ length numbers.old }
         ensures { numbers.new ≡ numbers_in self.now.text.now }
@@ -72,7 +73,8 @@ impl<'a> NumberList<'a> {
         }
     }
 
-    // Its numbers, at the front of N.
+    // Its numbers, at the front of N. (The loop is a function of its own: one over the closure of `split` gets no proof in a
+    // function with a const parameter.)
     pub(crate) fn to_array<const N: usize>(&self) -> [u64; N]
         requires { length (numbers_in self.now.text.now) ≤ N }
         ensures { take (length (numbers_in self.now.text.now)) result ≡ numbers_in self.now.text.now }

@@ -28,7 +28,7 @@ fn ask_codes<F: Doublable>(values: &[u64], tags: &[u64]) -> Result<(), TextFault
     Ok(())
 }
 
-// Asks the same over the field of this name.
+// Asks the same over the field of this name. (`ask_codes` takes the field as a type, so a match names each.)
 fn ask_named(field: FieldName, values: &[u64], tags: &[u64]) -> Result<(), TextFault>
     ensures { refusal_told result ≡ first_fault ((all_codes (codes_of field).size values.now, (59, 7)) ∷ (all_codes ((codes_of field).size * (codes_of field).size) tags.now, (59, 8)) ∷ []) }
 {
@@ -38,7 +38,8 @@ fn ask_named(field: FieldName, values: &[u64], tags: &[u64]) -> Result<(), TextF
     }
 }
 
-// Values and tags, pair by pair, at the front of 64 pairs.
+// Values and tags, pair by pair, at the front of 64 pairs. (It writes by index: of what is written through `iter_mut` a proof
+// knows only how many items there are.)
 fn pair_up(values: &[u64], tags: &[u64]) -> [Pair; 64]
     requires { (length values.now ≡ length tags.now) × (length values.now ≤ 64) }
     ensures { take (length values.now) result ≡ paired values.now tags.now }
