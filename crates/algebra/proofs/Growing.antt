@@ -1,13 +1,16 @@
--- The offer of a point: what it leaves where the abscissa is a root and where the point is taken, and how many coefficients the
--- bottom of a collected ratio has at most.
+-- The offer of a point in each of its three cases, and how many coefficients the bottom of a collected ratio has at most.
 -- Assumes nothing.
-use Rattle.std.proofs.Common.{◌≡◌, ℕ, suc, ◌≤◌, List, [], ◌∷◌, length, arith}
+use Rattle.std.proofs.Common.{◌≡◌, ℕ, suc, ◌<◌, ◌≤◌, List, [], ◌∷◌, length, arith}
 use Rattle.algebra.specs.Field.{Field}
 use Rattle.algebra.specs.Polynomial.{eval}
 use Rattle.algebra.specs.Decoder.{Ratio, extended, offered, collected}
 use Rattle.algebra.proofs.Polynomials.{times_root_within}
 
 module _ {K : Type 0} (X : Field K) (f : List K) (t : ℕ) (p : Ratio X) (x y : K) where
+  -- t + 1 points are taken already
+  pub offer_full : t < length p.top → offered X f t p x y ≡ p
+  offer_full l = grind arith
+
   -- the abscissa is a root of f
   pub offer_zero : eval X f x ≡ X.zero → offered X f t p x y ≡ p
   offer_zero e = grind arith
