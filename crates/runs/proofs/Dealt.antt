@@ -1,7 +1,7 @@
 -- What an accepted deal gives: the polynomials of each place, and the cards that a choice of tag polynomials deals.
 -- Assumes nothing.
 use Rattle.std.proofs.Common.{◌≡◌, ℕ, suc, ◌+◌, ◌-◌, ◌*◌, ◌<◌, ◌≤◌, true, cond, not, ◌&&◌, List, [], map, length, get_or, drop, is_some, Some, None, Option, sym, refl, ap, ◌∙◌, subst, ap₂, mul-le-mul_right, suc-mul, zero-add, arith, length-drop}
-use Rattle.std.specs.List.{AllByRecursion}
+use Rattle.std.specs.List.{AllByRecursion, list_all}
 use Rattle.std.proofs.lemmas.List.FromFn.{length-map-range_with_len, get_or-map-range_with_len, fill_by_all}
 use Rattle.std.proofs.ByRecursion.{All-take, All-drop, All-get_or, All-map}
 use Rattle.std.proofs.lemmas.List.{length-take-le}
@@ -9,7 +9,6 @@ use Rattle.std.proofs.lemmas.Bool.{eq-eqb, lt-ltb, cond-true}
 use Rattle.algebra.proofs.Counting.{all_with, all_from_in, in_map_back}
 use Rattle.fields.specs.Doubled.{doubled, join}
 use Rattle.fields.specs.DoubledLaws.{doubled_laws}
-use Rattle.scheme.specs.Questions.{every}
 use Rattle.scheme.specs.Polynomial.{value_at_lem}
 use Rattle.scheme.specs.Dealing.{at_place, places, value_polynomial, tag_polynomial, dealt_pair}
 use Rattle.scheme.specs.declared.types.Pair.{Pair}
@@ -112,7 +111,7 @@ module _ (D : Deal) where
         (join codes.size (value_at_lem codes (value_polynomials j) i) i)
     card_tag j l = ap (λ (a : Pair). a.tag) (card_pair j l)
 
-    card_coded : Sound c → is_participant codes figures i ≡ true → every (is_coded_lem codes) (card_under D c i) ≡ true
+    card_coded : Sound c → is_participant codes figures i ≡ true → list_all (is_coded_lem codes) (card_under D c i) ≡ true
     card_coded s m =
         every_from (is_coded_lem codes) (card_under D c i) (λ a k.
         let r = in_map_back (λ j. dealt_pair codes u v (value_polynomials j) (get_or c j []) i) (places figures) a k in

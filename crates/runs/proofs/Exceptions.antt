@@ -1,6 +1,7 @@
 -- The choices under which some accepted altered card would go unnamed: few for each such card.
 -- Assumes nothing.
 use Rattle.std.proofs.Common.{◌≡◌, ℕ, ◌+◌, ◌-◌, ◌*◌, ◌^◌, ◌<◌, ◌≤◌, Bool, true, false, cond, not, ◌&&◌, ◌||◌, eqb, ◌⊎◌, List, [], ◌∷◌, ◌++◌, length, Some, filter, sym, refl, ap, ◌∙◌, subst, ap₂, inl, inr, ⊎_elim, true≢false, arith, length-append}
+use Rattle.std.specs.List.{list_any}
 use Rattle.std.proofs.Math.Nat.{pow-le-pow_right}
 use Rattle.std.proofs.lemmas.Bool.{and_from, and_parts, not-true, cases_Bool}
 use Rattle.std.proofs.lemmas.Option.{none-some}
@@ -9,7 +10,6 @@ use Rattle.algebra.proofs.Counting.{all_in, in_left, in_right}
 use Rattle.fields.specs.DoubledLaws.{doubled_laws}
 use Rattle.scheme.specs.Dealing.{places}
 use Rattle.runs.specs.Cards.{Card}
-use Rattle.runs.specs.Opening.{some}
 use Rattle.runs.specs.Runs.{Run, start, ◌then◌, Each, Beginning, present, withdraw, seal, reopen, opens, present_accepted, lies, value_altered, tag_altered, altered, altered_values}
 use Rattle.runs.specs.Law.{Deal, Group, Choice, Move, as_dealt, just, Permitted, q, dealt_choice, card_under, calls, Lies, Deals, forgeries}
 use Rattle.runs.proofs.Lists.{some_in, none_in, in_kept, place_below, in_places}
@@ -46,7 +46,7 @@ module _ (D : Deal) (group : List ℕ) (grp : Group D.figures group) where
 
   one_card : (i : ℕ) (x : Card) → In i group → RightCard codes figures i x → altered figures (dealt i) x ≡ true
       → (l : List Choice) × (length l ≤ bound) × Catches l i x
-  one_card i x m right a = by (cases_Bool (some bad (places figures)))
+  one_card i x m right a = by (cases_Bool (list_any bad (places figures)))
     where
       va : ℕ → Bool
       va = value_altered (dealt i) x
@@ -65,7 +65,7 @@ module _ (D : Deal) (group : List ℕ) (grp : Group D.figures group) where
           true≢false (sym (altered_tag_strays D c i x j (place_below figures.d j k)
           (ap (λ z. value_altered z x j) (sym same) ∙ not-true _ p.0) (ap (λ z. tag_altered z x j) (sym same) ∙ p.1)) ∙ s)
 
-      by : (some bad (places figures) ≡ true) ⊎ (some bad (places figures) ≡ false) → (l : List Choice) × (length l ≤ bound) × Catches l i x
+      by : (list_any bad (places figures) ≡ true) ⊎ (list_any bad (places figures) ≡ false) → (l : List Choice) × (length l ≤ bound) × Catches l i x
       by (inl e) = let r = some_in bad (places figures) e in ([], omega arith, never r.0 r.1 r.2)
       by (inr e) = (
         count.list,

@@ -1,7 +1,7 @@
 -- Which polynomials pass through points, or through all but a few of them: there is only one.
 -- Assumes nothing.
 use Rattle.std.proofs.Common.{◌≡◌, ℕ, suc, ◌+◌, ◌*◌, ◌<◌, ◌≤◌, Bool, true, List, [], ◌∷◌, map, length, filter, sym, ◌∙◌, arith}
-use Rattle.std.specs.List.{AllByRecursion}
+use Rattle.std.specs.List.{AllByRecursion, list_all}
 use Rattle.std.proofs.ByRecursion.{all_kept_by, All-map}
 use Rattle.std.proofs.lemmas.List.{length-map}
 use Rattle.std.proofs.lemmas.Bool.{leb-true, le-leb, eqb-true}
@@ -9,7 +9,6 @@ use Rattle.algebra.specs.Polynomial.{Apart}
 use Rattle.algebra.specs.Count.{In}
 use Rattle.algebra.proofs.Counting.{all_from_in}
 use Rattle.fields.specs.Laws.{Codes, Laws}
-use Rattle.scheme.specs.Questions.{every}
 use Rattle.scheme.specs.Polynomial.{value_at_lem}
 use Rattle.scheme.specs.Fitting.{polynomials, passes, agreements, fits, fitting}
 use Rattle.scheme.proofs.Enumerated.{kept_one, CodesOf, polynomials_in, polynomials_are, polynomials_apart}
@@ -62,9 +61,9 @@ module _ {C : Codes} (L : Laws C) where
         (λ f k e. fits_one t many f g (polynomials_are _ _ f k) hg e fit)
 
     -- a polynomial of k coefficients through k points, or more, is the only one through all of them
-    pub through_is : (k : ℕ) → k ≤ length points → (g : List ℕ) → CodesOf C.size k g → every (passes C g) points ≡ true
-        → filter (λ f. every (passes C f) points) (polynomials C.size k) ≡ g ∷ []
+    pub through_is : (k : ℕ) → k ≤ length points → (g : List ℕ) → CodesOf C.size k g → list_all (passes C g) points ≡ true
+        → filter (λ f. list_all (passes C f) points) (polynomials C.size k) ≡ g ∷ []
     through_is k many g hg on =
-        kept_one (λ f. every (passes C f) points) (polynomials C.size k) g (polynomials_apart C.size k) (polynomials_in _ _ g hg) on
+        kept_one (λ f. list_all (passes C f) points) (polynomials C.size k) g (polynomials_apart C.size k) (polynomials_in _ _ g hg) on
         (λ f m e. same_on points h k f g (polynomials_are _ _ f m) hg many
         (λ p i. eqb-true _ _ (every_in (passes C f) points p e i) ∙ sym (eqb-true _ _ (every_in (passes C g) points p on i))))

@@ -1,53 +1,46 @@
 -- Tests over lists, questions, filters and the numbers of a range.
 -- Assumes nothing.
-use Rattle.std.proofs.Common.{◌≡◌, ℕ, zero, suc, ◌+◌, ◌<◌, ◌≤◌, Bool, true, false, cond, ◌&&◌, ◌||◌, List, [], ◌∷◌, map, length, None, filter, sym, refl, ap, ◌∙◌, subst, ap₂, inl, inr, true≢false, arith}
-use Rattle.std.specs.List.{range_with_len, AllByRecursion}
+use Rattle.std.proofs.Common.{◌≡◌, ℕ, zero, suc, ◌+◌, ◌<◌, ◌≤◌, Bool, true, false, cond, ◌&&◌, ◌||◌, List, [], ◌∷◌, map, length, filter, sym, refl, ap, ◌∙◌, subst, ap₂, inl, inr, true≢false, arith}
+use Rattle.std.specs.List.{range_with_len, list_all, list_any}
 use Rattle.std.proofs.ByRecursion.{all_kept_by, All-map}
-use Rattle.std.proofs.lemmas.Bool.{cond-true, or_left, or_right, false_from_ne_true}
+use Rattle.std.proofs.lemmas.Bool.{or_left, or_right, false_from_ne_true}
 use Rattle.algebra.specs.Polynomial.{Apart, Distinct}
 use Rattle.algebra.specs.Count.{In}
 use Rattle.algebra.proofs.Counting.{all_in, all_from_in}
-use Rattle.scheme.specs.Questions.{first_no, every}
 use Rattle.scheme.proofs.Asking.{all_from_every}
 use Rattle.scheme.proofs.Enumerated.{in_counting, counting_in}
-use Rattle.runs.specs.Opening.{some}
-
--- every answer is yes: no refusal
-pub no_refusal : (questions : List (Bool × ℕ)) → AllByRecursion (λ q. q.0 ≡ true) questions → first_no questions ≡ None
-no_refusal [] h = refl
-no_refusal (q ∷ questions) h = cond-true q.0 _ _ h.0 ∙ no_refusal questions h.1
 
 -- ---- tests that all pass, or some, or none
 
 module _ {A : Type 0} (test : A → Bool) where
-  pub every_in : (l : List A) (a : A) → every test l ≡ true → In a l → test a ≡ true
+  pub every_in : (l : List A) (a : A) → list_all test l ≡ true → In a l → test a ≡ true
   every_in l a e k = all_in _ l a (all_from_every test (λ a. test a ≡ true) (λ a t. t) l e) k
 
-  pub every_from : (l : List A) → ((a : A) → In a l → test a ≡ true) → every test l ≡ true
+  pub every_from : (l : List A) → ((a : A) → In a l → test a ≡ true) → list_all test l ≡ true
   every_from [] h = refl
   every_from (b ∷ l) h = ap₂ ◌&&◌ (h b (inl refl)) (every_from l (λ a k. h a (inr k)))
 
-  pub not_every : (l : List A) (a : A) → In a l → test a ≡ false → every test l ≡ false
+  pub not_every : (l : List A) (a : A) → In a l → test a ≡ false → list_all test l ≡ false
   not_every l a k h = false_from_ne_true _ (λ e. true≢false (sym (every_in l a e k) ∙ h))
 
-  pub not_every_in : (l : List A) → every test l ≡ false → (a : A) × In a l × (test a ≡ false)
+  pub not_every_in : (l : List A) → list_all test l ≡ false → (a : A) × In a l × (test a ≡ false)
   not_every_in [] e = absurd (true≢false e)
   not_every_in (b ∷ l) e = grind (arith, not_every_in l)
 
-  pub some_from : (l : List A) (a : A) → In a l → test a ≡ true → some test l ≡ true
+  pub some_from : (l : List A) (a : A) → In a l → test a ≡ true → list_any test l ≡ true
   some_from [] a k h = absurd k
   some_from (b ∷ l) a (inl q) h = or_left _ _ (ap test (sym q) ∙ h)
   some_from (b ∷ l) a (inr k) h = or_right (test b) _ (some_from l a k h)
 
-  pub some_in : (l : List A) → some test l ≡ true → (a : A) × In a l × (test a ≡ true)
+  pub some_in : (l : List A) → list_any test l ≡ true → (a : A) × In a l × (test a ≡ true)
   some_in [] e = cc
   some_in (b ∷ l) e = grind (arith, some_in l)
 
-  pub none_from : (l : List A) → ((a : A) → In a l → test a ≡ false) → some test l ≡ false
+  pub none_from : (l : List A) → ((a : A) → In a l → test a ≡ false) → list_any test l ≡ false
   none_from [] h = refl
   none_from (b ∷ l) h = ap₂ ◌||◌ (h b (inl refl)) (none_from l (λ a k. h a (inr k)))
 
-  pub none_in : (l : List A) (a : A) → some test l ≡ false → In a l → test a ≡ false
+  pub none_in : (l : List A) (a : A) → list_any test l ≡ false → In a l → test a ≡ false
   none_in l a e k = false_from_ne_true _ (λ h. true≢false (sym (some_from l a k h) ∙ e))
 
   -- ---- filters
@@ -88,7 +81,7 @@ module _ {A : Type 0} (test : A → Bool) where
   kept_map f [] = refl
   kept_map f (b ∷ l) = grind (arith, kept_map f l)
 
-pub some_same : {A : Type 0} (p r : A → Bool) (l : List A) → ((a : A) → In a l → p a ≡ r a) → some p l ≡ some r l
+pub some_same : {A : Type 0} (p r : A → Bool) (l : List A) → ((a : A) → In a l → p a ≡ r a) → list_any p l ≡ list_any r l
 some_same p r [] h = refl
 some_same p r (b ∷ l) h = ap₂ ◌||◌ (h b (inl refl)) (some_same p r l (λ a k. h a (inr k)))
 

@@ -1,7 +1,8 @@
 -- What open finds on a table, where at each place at most t lying cards miss one given polynomial.
 -- Assumes nothing.
 use Rattle.std.proofs.Common.{◌≡◌, ℕ, suc, ◌+◌, ◌-◌, ◌*◌, ◌/◌, ◌%◌, ◌<◌, ◌≤◌, Bool, true, false, not, leb, List, [], ◌∷◌, ◌++◌, map, length, get_or, replicate, Some, None, Ok, Err, filter, Option, sym, ap, ◌∙◌, subst, ap₂, true≢false, arith}
-use Rattle.std.specs.List.{AllByRecursion}
+use Rattle.scheme.proofs.Acceptance.{no_refusal}
+use Rattle.std.specs.List.{AllByRecursion, list_all, list_any}
 use Rattle.std.proofs.Math.Seq.{take-append_seam}
 use Rattle.std.proofs.lemmas.List.{length-map, get_or_past}
 use Rattle.std.proofs.lemmas.List.Elements.{filter_agree}
@@ -14,7 +15,7 @@ use Rattle.fields.specs.Laws.{Codes, DoublableLaws}
 use Rattle.fields.specs.Doubled.{doubled, join}
 use Rattle.fields.specs.Elements.{zero_below}
 use Rattle.fields.specs.DoubledLaws.{doubled_laws, join_low, join_high, join_below}
-use Rattle.scheme.specs.Questions.{first_no, every}
+use Rattle.scheme.specs.Questions.{first_no}
 use Rattle.scheme.specs.Polynomial.{value_at_lem}
 use Rattle.scheme.specs.Fitting.{polynomials, passes, agreements}
 use Rattle.scheme.specs.Dealing.{places}
@@ -23,9 +24,9 @@ use Rattle.scheme.specs.declared.types.Pair.{Pair}
 use Rattle.scheme.proofs.Asking.{all_from_every}
 use Rattle.scheme.proofs.Enumerated.{kept_none, CodesOf, polynomials_are}
 use Rattle.runs.specs.Cards.{blank, Card, Cards, lying, is_coded_lem}
-use Rattle.runs.specs.Opening.{Opening, some, pair_at, tag_point, value_point, fitting_at, is_named, named, unnamed, value_curves, early_questions, late_questions, new_key, concluded, opened, FirstThree}
+use Rattle.runs.specs.Opening.{Opening, pair_at, tag_point, value_point, fitting_at, is_named, named, unnamed, value_curves, early_questions, late_questions, new_key, concluded, opened, FirstThree}
 use Rattle.runs.specs.Runs.{written}
-use Rattle.runs.proofs.Lists.{no_refusal, every_from, kept_in, apart_kept, kept_map, some_same, map_same, place_below, every_in, not_every, in_places}
+use Rattle.runs.proofs.Lists.{every_from, kept_in, apart_kept, kept_map, some_same, map_same, place_below, every_in, not_every, in_places}
 use Rattle.runs.proofs.Fits.{Plane, plane_kept, same_on, fitting_few, fitting_is, through_is}
 use Rattle.runs.proofs.Collected.{number, lying_apart}
 use Rattle.runs.proofs.Tables.{RightCard, participant_high}
@@ -54,7 +55,7 @@ module _ (C : Codes) (u v : ℕ) (f : Figures) (G : ℕ → List ℕ) where
 
   -- at some place it has not
   abbrev pub misses : ℕ × Card → Bool
-  misses a = some (λ j. not (hits j a)) (places f)
+  misses a = list_any (λ j. not (hits j a)) (places f)
 
 module _ {C : Codes} {u v : ℕ} (L : DoublableLaws C u v) (f : Figures) where
   -- ---- codes and points
@@ -62,13 +63,13 @@ module _ {C : Codes} {u v : ℕ} (L : DoublableLaws C u v) (f : Figures) where
   pub small : (i : ℕ) → i ≤ f.n → i < C.size
   small i h = let l : 33 ≤ C.size = L.on_codes.at_least_33 in let m : f.n ≤ 32 = f.participants.1 in omega arith
 
-  pub pair_below : (card : Card) → every (is_coded_lem C) card ≡ true → (j : ℕ) → j < length card
+  pub pair_below : (card : Card) → list_all (is_coded_lem C) card ≡ true → (j : ℕ) → j < length card
       → ((pair_at card j).value < C.size) × ((pair_at card j).tag < C.size * C.size)
   pair_below card e j h =
       let r = and_parts _ _ (All-get_or (λ (a : Pair). is_coded_lem C a ≡ true) card j blank h (all_from_every (is_coded_lem C) _ (λ a t. t) card e)) in
       (ltb-true _ _ r.0, ltb-true _ _ r.1)
 
-  pub pair_value_below : (card : Card) → every (is_coded_lem C) card ≡ true → (j : ℕ) → (pair_at card j).value < C.size
+  pub pair_value_below : (card : Card) → list_all (is_coded_lem C) card ≡ true → (j : ℕ) → (pair_at card j).value < C.size
   pair_value_below card e j = grind (arith, pair_below card e j, get_or_past card j blank, zero_below L.on_codes)
 
   -- the abscissa value + i·y tells the value and i
@@ -183,7 +184,7 @@ module _ {C : Codes} {u v : ℕ} (L : DoublableLaws C u v) (f : Figures) where
 
           -- h passes through k of the clean values of place j and not through all, so that these lie on no one polynomial
           pub scattered : (j : ℕ) → j < f.d → (h : List ℕ) → CodesOf C.size f.k h → f.k ≤ length clean
-              → f.k ≤ length (filter (passes C h) (map (value_point j) clean)) → every (passes C h) (map (value_point j) clean) ≡ false
+              → f.k ≤ length (filter (passes C h) (map (value_point j) clean)) → list_all (passes C h) (map (value_point j) clean) ≡ false
               → opened C u v f cards key names ≡ refusing 37 missing key names
           scattered j l h hh many on not-all =
               refused 37 (cond-true _ _ _ (le-leb f.k (length (unnamed C u v f cards)) (omega (arith, ap length unnamed_is)))
@@ -193,20 +194,20 @@ module _ {C : Codes} {u v : ℕ} (L : DoublableLaws C u v) (f : Figures) where
               points : List (ℕ × ℕ)
               points = map (value_point j) clean
 
-              only : (g : List ℕ) → CodesOf C.size f.k g → every (passes C g) points ≡ true → g ≡ h
+              only : (g : List ℕ) → CodesOf C.size f.k g → list_all (passes C g) points ≡ true → g ≡ h
               only g hg e =
                   same_on L.on_codes (filter (passes C h) points)
                   (plane_kept (passes C h) (value_plane (λ a. not (misses C u v f G a)) j)) f.k g h hg hh on
                   (λ p k. let r = kept_in (passes C h) points p k in eqb-true _ _ (every_in (passes C g) points p e r.0) ∙ sym
                   (eqb-true _ _ r.1))
 
-              off : (g : List ℕ) → CodesOf C.size f.k g → every (passes C g) points ≡ false
+              off : (g : List ℕ) → CodesOf C.size f.k g → list_all (passes C g) points ≡ false
               off g hg =
-                  false_from_ne_true _ (λ e. true≢false (sym (ap (λ z. every (passes C z) points) (sym (only g hg e)) ∙ e) ∙ not-all))
+                  false_from_ne_true _ (λ e. true≢false (sym (ap (λ z. list_all (passes C z) points) (sym (only g hg e)) ∙ e) ∙ not-all))
 
               none : value_curves C u v f cards j ≡ []
               none =
-                  ap (λ z. filter (λ g. every (passes C g) (map (value_point j) z)) (polynomials C.size f.k)) unnamed_is
+                  ap (λ z. filter (λ g. list_all (passes C g) (map (value_point j) z)) (polynomials C.size f.k)) unnamed_is
                   ∙ kept_none _ (polynomials C.size f.k) (λ g k. off g (polynomials_are _ _ g k))
 
           module _ (F : ℕ → List ℕ) (goodF : (j : ℕ) → j < f.d → CodesOf C.size f.k (F j))
@@ -215,7 +216,7 @@ module _ {C : Codes} {u v : ℕ} (L : DoublableLaws C u v) (f : Figures) where
               (many : f.k ≤ length clean) where
             curves_are : (j : ℕ) → j < f.d → value_curves C u v f cards j ≡ F j ∷ []
             curves_are j h =
-                ap (λ l. filter (λ g. every (passes C g) (map (value_point j) l)) (polynomials C.size f.k)) unnamed_is
+                ap (λ l. filter (λ g. list_all (passes C g) (map (value_point j) l)) (polynomials C.size f.k)) unnamed_is
                 ∙ through_is L.on_codes (map (value_point j) clean) (value_plane (λ a. not (misses C u v f G a)) j) f.k
                 (omega (arith, length-map clean (value_point j))) (F j) (goodF j h)
                 (every_from (passes C (F j)) (map (value_point j) clean) (λ p k.

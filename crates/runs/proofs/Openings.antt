@@ -1,14 +1,14 @@
 -- The opening of one table.
 -- Assumes nothing.
 use Rattle.std.proofs.Common.{◌≡◌, ℕ, ◌+◌, ◌<◌, ◌≤◌, Bool, true, false, cond, not, leb, ◌⊎◌, List, [], ◌∷◌, map, length, get_or, replicate, Some, None, Ok, Err, filter, Option, Result, sym, ap, ◌∙◌, subst, ap₂, inl, inr, arith}
-use Rattle.std.specs.List.{range_with_len, AllByRecursion}
+use Rattle.std.specs.List.{range_with_len, AllByRecursion, list_all}
 use Rattle.std.proofs.ByRecursion.{All-weaker}
 use Rattle.std.proofs.lemmas.List.{nil_from_length}
 use Rattle.std.proofs.lemmas.Bool.{le-leb, leb-false, eq-eqb, cond-true, cases_Bool}
 use Rattle.algebra.specs.Count.{In}
 use Rattle.algebra.proofs.Counting.{all_in, all_from_in}
 use Rattle.fields.specs.Laws.{Codes, DoublableLaws}
-use Rattle.scheme.specs.Questions.{first_no, every}
+use Rattle.scheme.specs.Questions.{first_no}
 use Rattle.scheme.specs.Dealing.{places}
 use Rattle.scheme.specs.declared.types.Figures.{Figures}
 use Rattle.scheme.proofs.Enumerated.{kept_none, counting_in}
@@ -38,7 +38,7 @@ module _ (C : Codes) (u v : ℕ) (L : DoublableLaws C u v) (f : Figures) (cards 
 
   -- some polynomial fits at each place
   abbrev some_fits : Bool
-  some_fits = every (λ j. leb 1 (length (fitting_at C u v f cards j))) (places f)
+  some_fits = list_all (λ j. leb 1 (length (fitting_at C u v f cards j))) (places f)
 
   early_is : first_no (early_questions C u v f cards key names) ≡ cond some_fits None (Some 34)
   early_is =
@@ -61,7 +61,7 @@ module _ (C : Codes) (u v : ℕ) (L : DoublableLaws C u v) (f : Figures) (cards 
   -- where something fits everywhere, only 36 and 37 refuse
   not_late : (e count : ℕ) → e < 36 → (closed None).answer ≡ Err (e, count) → ⊥
   not_late e count l =
-      by (leb f.k (length (unnamed C u v f cards))) (every (λ j. leb 1 (length (value_curves C u v f cards j))) (places f))
+      by (leb f.k (length (unnamed C u v f cards))) (list_all (λ j. leb 1 (length (value_curves C u v f cards j))) (places f))
     where
       by : (a b : Bool) → (concluded C u v f cards None (first_no ((a, 36) ∷ (b, 37) ∷ [])) key names).answer ≡ Err (e, count) → ⊥
       by a b h = grind arith

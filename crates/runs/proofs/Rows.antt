@@ -2,7 +2,7 @@
 -- coefficients 1, 0, 2 and tag coefficients 5, 3.
 -- Assumes nothing.
 use Rattle.std.proofs.Common.{◌≡◌, ℕ, zero, suc, ◌+◌, ◌<◌, ◌≤◌, Bool, true, false, not, ◌||◌, eqb, leb, ◌⊎◌, List, [], ◌∷◌, map, length, None, Ok, Err, filter, sym, refl, ap, ◌∙◌, inl, inr, true≢false, arith, lit≤, length-append}
-use Rattle.std.specs.List.{AllByRecursion}
+use Rattle.std.specs.List.{AllByRecursion, list_all}
 use Rattle.std.proofs.lemmas.List.Elements.{filter-append}
 use Rattle.std.proofs.ByRecursion.{All-weaker}
 use Rattle.std.proofs.lemmas.Bool.{leb-true, leb-false, eqb-true, eqb-false, ltb-true, false_from_ne_true}
@@ -11,7 +11,7 @@ use Rattle.fields.specs.P251.{p251}
 use Rattle.fields.specs.Doubled.{doubled, sum2, product2}
 use Rattle.fields.specs.DoubledLaws.{doubled_laws}
 use Rattle.fields.specs.P251Laws.{p251_doublable}
-use Rattle.scheme.specs.Questions.{every, all_codes}
+use Rattle.scheme.specs.Questions.{all_codes}
 use Rattle.scheme.specs.Polynomial.{value_at_lem}
 use Rattle.scheme.specs.Fitting.{passes, fits, polynomials}
 use Rattle.scheme.proofs.Asking.{all_from_codes}
@@ -59,7 +59,7 @@ module _ (cards : Cards) (passing : AllByRecursion (λ (a : ℕ × Card). card_r
   too_few few = few_clean p251_doublable five cards right (leb-true _ _ four) tag_polynomials good most key names first (leb-false _ _ few)
 
   module _ (h : List ℕ) (long : length h ≡ 4) (codes : all_codes 251 h ≡ true) (enough : leb 4 (length clean) ≡ true) where
-    on_one : every (λ (a : ℕ × Card). strays a || eqb (value_at_lem p251 h a.0) (pair_at a.1 0).value) (lying cards) ≡ true
+    on_one : list_all (λ (a : ℕ × Card). strays a || eqb (value_at_lem p251 h a.0) (pair_at a.1 0).value) (lying cards) ≡ true
         → opened p251 0 250 five cards key names
         ≡ opening_to (length (lying cards)) named (value_at_lem p251 h 0 ∷ []) names
     on_one on =
@@ -72,7 +72,7 @@ module _ (cards : Cards) (passing : AllByRecursion (λ (a : ℕ × Card). card_r
             eqb-true _ _ (sym (ap (λ b. b || eqb (value_at_lem p251 h a.0) (pair_at a.1 0).value) e) ∙ on_a)
         honest a k e (suc j) l = absurd (omega arith)
 
-    on_none : leb 4 (length (filter (passes p251 h) (map (value_point 0) clean))) ≡ true → every (passes p251 h) (map (value_point 0) clean) ≡ false
+    on_none : leb 4 (length (filter (passes p251 h) (map (value_point 0) clean))) ≡ true → list_all (passes p251 h) (map (value_point 0) clean) ≡ false
         → opened p251 0 250 five cards key names ≡ refusing 37 named key names
     on_none some not-all =
         scattered p251_doublable five cards right (leb-true _ _ four) tag_polynomials good most key names first 0 (lit≤ tt) h
@@ -123,12 +123,12 @@ abbrev fits_four : List ℕ → Bool
 fits_four = fits (doubled p251 0 250) (map (tag_point p251 0) (lying two_altered)) 1
 
 -- both pass a test, or at most one is kept
-both : (test : ℕ × ℕ → Bool) (a b : ℕ × ℕ) → (every test (a ∷ b ∷ []) ≡ true) ⊎ (length (filter test (a ∷ b ∷ [])) ≤ 1)
+both : (test : ℕ × ℕ → Bool) (a b : ℕ × ℕ) → (list_all test (a ∷ b ∷ []) ≡ true) ⊎ (length (filter test (a ∷ b ∷ [])) ≤ 1)
 both test a b = grind arith
 
 -- a polynomial of two coefficients through two points is h
 through_two : (points : List (ℕ × ℕ)) → length points ≡ 2 → Plane (doubled p251 0 250) points → (g h : List ℕ) → CodesOf 63001 2 g
-    → CodesOf 63001 2 h → every (passes (doubled p251 0 250) g) points ≡ true → every (passes (doubled p251 0 250) h) points ≡ true → g ≡ h
+    → CodesOf 63001 2 h → list_all (passes (doubled p251 0 250) g) points ≡ true → list_all (passes (doubled p251 0 250) h) points ≡ true → g ≡ h
 through_two points two plane g h hg hh eg eh =
     same_on (doubled_laws p251_doublable) points plane 2 g h hg hh (omega arith)
     (λ p k. eqb-true _ _ (every_in (passes (doubled p251 0 250) g) points p eg k) ∙ sym
@@ -141,8 +141,8 @@ none_fits g hg e = by (both (passes (doubled p251 0 250) g) _ _) (both (passes (
     other : (h : List ℕ) → fits_four h ≡ false → g ≡ h → ⊥
     other h wrong same = true≢false (sym e ∙ ap fits_four same ∙ wrong)
 
-    by : (every (passes (doubled p251 0 250) g) front ≡ true) ⊎ (length (filter (passes (doubled p251 0 250) g) front) ≤ 1)
-        → (every (passes (doubled p251 0 250) g) back ≡ true) ⊎ (length (filter (passes (doubled p251 0 250) g) back) ≤ 1) → ⊥
+    by : (list_all (passes (doubled p251 0 250) g) front ≡ true) ⊎ (length (filter (passes (doubled p251 0 250) g) front) ≤ 1)
+        → (list_all (passes (doubled p251 0 250) g) back ≡ true) ⊎ (length (filter (passes (doubled p251 0 250) g) back) ≤ 1) → ⊥
     by (inl a) b =
         other (6 ∷ 3 ∷ []) refl (through_two front refl
         (record { apart = ((eqb-false _ _ refl, tt), (tt, tt)); below = (ltb-true _ _ refl, (ltb-true _ _ refl, tt)) })

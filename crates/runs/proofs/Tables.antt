@@ -1,18 +1,18 @@
 -- The table after a run of calls holds what lies by the calls alone.
 -- Assumes nothing.
 use Rattle.std.proofs.Common.{◌≡◌, ℕ, ◌-◌, ◌≤◌, Bool, true, cond, not, ◌&&◌, eqb, leb, ◌⊎◌, [], ◌∷◌, ◌++◌, map, length, is_some, Some, None, Option, sym, refl, ap, ◌∙◌, subst, ap₂, arith, length-set}
+use Rattle.std.specs.List.{list_all}
 use Rattle.std.proofs.lemmas.List.{length-replicate, get_or-replicate, get_or-set_same, get_or-set_other, length-map}
 use Rattle.std.proofs.lemmas.Bool.{leb-true, le-leb, eqb-true, eq-eqb, and_parts}
 use Rattle.algebra.specs.Count.{In}
 use Rattle.fields.specs.Laws.{Codes}
-use Rattle.scheme.specs.Questions.{first_no, every}
+use Rattle.scheme.specs.Questions.{first_no}
 use Rattle.scheme.specs.Dealing.{participants}
 use Rattle.scheme.specs.declared.types.Figures.{Figures}
-use Rattle.scheme.proofs.Acceptance.{all_yes}
+use Rattle.scheme.proofs.Acceptance.{all_yes, no_refusal}
 use Rattle.scheme.proofs.Enumerated.{in_counting, counting_in}
 use Rattle.runs.specs.Cards.{Card, Cards, card_of, lying, is_coded_lem, is_participant, card_questions, card_refusal, present_refusal, withdraw_refusal, settled}
 use Rattle.runs.specs.Runs.{Run, start, ◌then◌, Call, present, withdraw, seal, reopen, opens, table, present_accepted, lies, numbers_lying}
-use Rattle.runs.proofs.Lists.{no_refusal}
 use Rattle.runs.proofs.Collected.{number, collect, in_collect, collect_in, collect_same, numbers_collected, lying_is}
 
 -- what lies after a present is its card, where it is accepted, or lay before
@@ -32,7 +32,7 @@ module _ (C : Codes) (f : Figures) where
 
   -- what the questions about a card settle
   abbrev pub RightCard : ℕ → Card → Type 0
-  RightCard i card = (is_participant C f i ≡ true) × (length card ≡ f.d) × (every (is_coded_lem C) card ≡ true)
+  RightCard i card = (is_participant C f i ≡ true) × (length card ≡ f.d) × (list_all (is_coded_lem C) card ≡ true)
 
   pub right_card : (i : ℕ) (card : Card) → card_refusal C f i card ≡ None → RightCard i card
   right_card i card e = let yes = all_yes (card_questions C f i card) e in (yes.0, eqb-true _ _ yes.1.0, yes.1.1.0)
@@ -63,7 +63,7 @@ module _ (C : Codes) (f : Figures) where
       → present_refusal C f x i card ≡ present_refusal C f y i card
   present_where x y i card h =
       where_participant i _ _
-      (λ n. ap (λ o. first_no ((eqb (length card) f.d, 42) ∷ (every (is_coded_lem C) card, 43) ∷ (not (is_some o), 44) ∷ [])) (h n))
+      (λ n. ap (λ o. first_no ((eqb (length card) f.d, 42) ∷ (list_all (is_coded_lem C) card, 43) ∷ (not (is_some o), 44) ∷ [])) (h n))
 
   withdraw_where : (x y : Option Card) (i : ℕ) → (is_participant C f i ≡ true → x ≡ y) → withdraw_refusal C f x i ≡ withdraw_refusal C f y i
   withdraw_where x y i h = where_participant i _ _ (λ n. ap (λ o. first_no ((is_some o, 45) ∷ [])) (h n))

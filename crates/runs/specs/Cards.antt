@@ -1,9 +1,9 @@
 -- The cards on a table, and what laying one down and taking one up answer. Participants are counted from 1.
 -- Assumes nothing.
 use Rattle.std.specs.Prelude.{◌≡◌, ℕ, suc, ◌-◌, ◌*◌, Bool, not, ◌&&◌, List, [], ◌∷◌, ◌++◌, length, replicate, is_some, Some, None, Ok, Err, Option, Result, ◌==◌, nat_le, nat_lt, slice_index_or, slice_set}
-use Rattle.std.specs.List.{AllByRecursion}
+use Rattle.std.specs.List.{AllByRecursion, list_all}
 use Rattle.fields.specs.Laws.{Codes}
-use Rattle.scheme.specs.Questions.{first_no, every}
+use Rattle.scheme.specs.Questions.{first_no}
 use Rattle.scheme.specs.declared.types.Figures.{Figures}
 use Rattle.scheme.specs.declared.types.Pair.{Pair}
 
@@ -47,7 +47,7 @@ module _ (C : Codes) (f : Figures) where
 
   -- the questions about a card that is said to be participant i's
   abbrev pub card_questions : ℕ → Card → List (Bool × ℕ)
-  card_questions i card = (is_participant i, 41) ∷ ((length card == f.d), 42) ∷ (every (is_coded_lem C) card, 43) ∷ []
+  card_questions i card = (is_participant i, 41) ∷ ((length card == f.d), 42) ∷ (list_all (is_coded_lem C) card, 43) ∷ []
 
   abbrev pub card_refusal : ℕ → Card → Option ℕ
   card_refusal i card = first_no (card_questions i card)

@@ -1,10 +1,11 @@
 -- What the call `open` answers, and what it leaves in its two buffers: in the key buffer the key, and in the names buffer the
 -- numbers of the participants whose cards it names. Places are counted from 0.
 -- Assumes nothing.
-use Rattle.std.specs.Prelude.{◌≡◌, ℕ, ◌-◌, ◌≤◌, Bool, false, not, ◌||◌, leb, List, [], ◌∷◌, ◌++◌, map, length, replicate, Some, None, Ok, Err, filter, Option, Result, ◌==◌, nat_le, slice_index_or}
+use Rattle.std.specs.Prelude.{◌≡◌, ℕ, ◌-◌, ◌≤◌, Bool, not, leb, List, [], ◌∷◌, ◌++◌, map, length, replicate, Some, None, Ok, Err, filter, Option, Result, ◌==◌, nat_le, slice_index_or}
+use Rattle.std.specs.List.{list_all, list_any}
 use Rattle.fields.specs.Laws.{Codes}
 use Rattle.fields.specs.Doubled.{doubled, join}
-use Rattle.scheme.specs.Questions.{first_no, every}
+use Rattle.scheme.specs.Questions.{first_no}
 use Rattle.scheme.specs.Polynomial.{value_at_lem}
 use Rattle.scheme.specs.Fitting.{polynomials, passes, fitting}
 use Rattle.scheme.specs.Dealing.{places}
@@ -18,11 +19,6 @@ pub record Opening : Type 0 where
   pub answer : Result (ℕ × ℕ) (ℕ × ℕ)
   pub key : List ℕ
   pub names : List ℕ
-
--- the test passes at some element
-abbrev pub some : {A : Type 0} → (A → Bool) → List A → Bool
-some test [] = false
-some test (a ∷ list) = test a || some test list
 
 -- the pair of a card at place j
 abbrev pub pair_at : Card → ℕ → Pair
@@ -48,7 +44,7 @@ module _ (C : Codes) (u v : ℕ) (f : Figures) (cards : Cards) where
 
   -- a card is named where at some place its tag is not the value of the fitting polynomial at its point
   abbrev pub is_named : ℕ × Card → Bool
-  is_named a = some (λ j. not (passes (doubled C u v) (the_fitting j) (tag_point C j a))) (places f)
+  is_named a = list_any (λ j. not (passes (doubled C u v) (the_fitting j) (tag_point C j a))) (places f)
 
   -- the numbers of the named cards, rising
   abbrev pub named : List ℕ
@@ -59,7 +55,7 @@ module _ (C : Codes) (u v : ℕ) (f : Figures) (cards : Cards) where
 
   -- the polynomials of degree at most k - 1 that the unnamed values of place j lie on
   abbrev pub value_curves : ℕ → List (List ℕ)
-  value_curves j = filter (λ g. every (passes C g) (map (value_point j) unnamed)) (polynomials C.size f.k)
+  value_curves j = filter (λ g. list_all (passes C g) (map (value_point j) unnamed)) (polynomials C.size f.k)
 
   -- the questions before anything is named, for the contents of the key buffer and of the names buffer
   abbrev pub early_questions : List ℕ → List ℕ → List (Bool × ℕ)
@@ -67,13 +63,13 @@ module _ (C : Codes) (u v : ℕ) (f : Figures) (cards : Cards) where
       ((length key == f.d), 31)
       ∷ (nat_le f.n (length names), 32)
       ∷ (nat_le f.k (length (lying cards)), 33)
-      ∷ (every (λ j. leb 1 (length (fitting_at j))) (places f), 34)
-      ∷ (every (λ j. leb (length (fitting_at j)) 1) (places f), 35)
+      ∷ (list_all (λ j. leb 1 (length (fitting_at j))) (places f), 34)
+      ∷ (list_all (λ j. leb (length (fitting_at j)) 1) (places f), 35)
       ∷ []
 
   -- the questions afterwards
   abbrev pub late_questions : List (Bool × ℕ)
-  late_questions = (nat_le f.k (length unnamed), 36) ∷ (every (λ j. leb 1 (length (value_curves j))) (places f), 37) ∷ []
+  late_questions = (nat_le f.k (length unnamed), 36) ∷ (list_all (λ j. leb 1 (length (value_curves j))) (places f), 37) ∷ []
 
   -- each symbol of the key is the value at zero of the polynomial that the unnamed values lie on
   abbrev pub new_key : List ℕ

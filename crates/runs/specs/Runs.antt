@@ -1,11 +1,12 @@
 -- Runs of calls on one sitting: what the calls answer and which cards they leave on the table, and which cards lie by the calls alone.
 -- Assumes nothing.
 use Rattle.std.specs.Prelude.{◌≡◌, ℕ, ◌+◌, Bool, false, cond, not, ◌&&◌, ◌||◌, ◌⊎◌, List, length, take, is_some, Some, None, Ok, Err, filter, Option, Result, ◌==◌}
+use Rattle.std.specs.List.{list_any}
 use Rattle.fields.specs.Laws.{Codes}
 use Rattle.scheme.specs.Dealing.{participants, places}
 use Rattle.scheme.specs.declared.types.Figures.{Figures}
 use Rattle.runs.specs.Cards.{Card, Cards, no_cards, present_refusal, withdraw_refusal, presented, withdrawn}
-use Rattle.runs.specs.Opening.{Opening, some, pair_at, opened}
+use Rattle.runs.specs.Opening.{Opening, pair_at, opened}
 
 -- ---- runs
 
@@ -111,7 +112,7 @@ tag_altered dealt card j = not ((pair_at card j).tag == (pair_at dealt j).tag)
 module _ (f : Figures) where
   -- a pair differs
   abbrev pub altered : Card → Card → Bool
-  altered dealt card = some (λ j. value_altered dealt card j || tag_altered dealt card j) (places f)
+  altered dealt card = list_any (λ j. value_altered dealt card j || tag_altered dealt card j) (places f)
 
   -- how many values differ
   abbrev pub altered_values : Card → Card → ℕ

@@ -1,26 +1,23 @@
--- What the questions of dealing settle.
+-- What questions settle that are answered with yes, and what those of dealing do.
 -- Assumes nothing.
-use Rattle.std.proofs.Common.{◌≡◌, ℕ, ◌+◌, ◌-◌, ◌*◌, ◌<◌, Bool, true, false, cond, List, length, [], ◌∷◌, Some, None, Option, refl, arith}
+use Rattle.std.proofs.Common.{◌≡◌, ℕ, ◌+◌, ◌-◌, ◌*◌, ◌<◌, Bool, true, List, length, [], ◌∷◌, None, refl, ◌∙◌, arith}
 use Rattle.std.specs.List.{AllByRecursion}
-use Rattle.std.proofs.lemmas.Bool.{and_parts, eqb-true}
+use Rattle.std.proofs.lemmas.Bool.{and_parts, cond-true, eqb-true}
 use Rattle.fields.specs.Laws.{Codes}
 use Rattle.scheme.specs.Questions.{first_no}
 use Rattle.scheme.specs.Dealing.{deal_questions, deal_refusal}
 use Rattle.scheme.specs.declared.types.Figures.{Figures}
 use Rattle.scheme.proofs.Asking.{all_from_codes}
 
-some_not_none : (e : ℕ) → ◌≡◌ {A = Option ℕ} (Some e) None → ⊥
-some_not_none e p = let z : ◌≡◌ {A = ℕ} 0 1 = cc in omega arith
-
 -- not refused: every answer is yes
-pub all_yes : (questions : List (Bool × ℕ)) → first_no questions ≡ None → AllByRecursion (λ q. q.0 ≡ true) questions
+pub all_yes : {R : Type 0} (questions : List (Bool × R)) → first_no questions ≡ None → AllByRecursion (λ q. q.0 ≡ true) questions
 all_yes [] e = tt
-all_yes (q ∷ questions) e = by q.0 refl (λ h. all_yes questions h) e
-  where
-    by : (b : Bool) → q.0 ≡ b → (first_no questions ≡ None → AllByRecursion (λ q. q.0 ≡ true) questions)
-        → cond b (first_no questions) (Some q.1) ≡ None → (q.0 ≡ true) × AllByRecursion (λ q. q.0 ≡ true) questions
-    by true p rest h = (p, rest h)
-    by false p rest h = absurd (some_not_none q.1 h)
+all_yes (q ∷ questions) e = grind (arith, all_yes questions)
+
+-- every answer is yes: no refusal
+pub no_refusal : {R : Type 0} (questions : List (Bool × R)) → AllByRecursion (λ q. q.0 ≡ true) questions → first_no questions ≡ None
+no_refusal [] h = refl
+no_refusal (q ∷ questions) h = cond-true q.0 _ _ h.0 ∙ no_refusal questions h.1
 
 -- the facts that the questions settle
 pub record Accepted (C : Codes) (f : Figures) (key values tags : List ℕ) : Type 0 where

@@ -1,7 +1,7 @@
 -- From elements to codes: the polynomial that the decoder finds is the one that fits, and there is no other.
 -- Assumes nothing.
 use Rattle.std.proofs.Common.{◌≡◌, ℕ, zero, suc, ◌+◌, ◌-◌, ◌*◌, ◌<◌, ◌≤◌, Bool, true, false, cond, not, eqb, List, [], ◌∷◌, ◌++◌, map, length, get_or, take, filter, sym, refl, ap, ◌∙◌, subst, ap₂, add-one, arith}
-use Rattle.std.specs.List.{AllByRecursion}
+use Rattle.std.specs.List.{AllByRecursion, list_all}
 use Rattle.std.proofs.lemmas.List.{get_or-map, length-map, take_all, take_more}
 use Rattle.std.proofs.ByRecursion.{All-get_or}
 use Rattle.std.proofs.lemmas.Bool.{eq-eqb, ne_eqb, eqb-false, leb-true, le-leb, and_parts, and_from, not-true}
@@ -15,7 +15,6 @@ use Rattle.algebra.proofs.Candidate.{fit_is_answer, length_down, took, took_righ
 use Rattle.fields.specs.Laws.{Codes, FieldLaws}
 use Rattle.fields.specs.Elements.{elements}
 use Rattle.fields.specs.ElementsLemmas.{zero_code, add_code, mul_code}
-use Rattle.scheme.specs.Questions.{every}
 use Rattle.scheme.specs.Polynomial.{value_at_lem}
 use Rattle.scheme.specs.Fitting.{polynomials, distinct, passes, fits, fitting, through}
 use Rattle.scheme.specs.Held.{abscissae, ordinates, point_codes}
@@ -24,10 +23,10 @@ use Rattle.scheme.proofs.Asking.{all_from_every}
 use Rattle.scheme.proofs.Enumerated.{kept_none, kept_one, polynomials_in, polynomials_are, polynomials_apart}
 
 -- a test that all pass keeps all
-kept_from_every : {A : Type 0} (test : A → Bool) (l : List A) → every test l ≡ true → length (filter test l) ≡ length l
+kept_from_every : {A : Type 0} (test : A → Bool) (l : List A) → list_all test l ≡ true → length (filter test l) ≡ length l
 kept_from_every test [] e = refl
 kept_from_every test (a ∷ l) e =
-    let h = and_parts (test a) (every test l) e in
+    let h = and_parts (test a) (list_all test l) e in
     ap (λ b. length (cond b (a ∷ filter test l) (filter test l))) h.0 ∙ ap suc (kept_from_every test l h.1)
 
 kept_le : {A : Type 0} (test : A → Bool) (l : List A) → length (filter test l) ≤ length l
@@ -38,13 +37,13 @@ kept_le test (a ∷ l) = by (test a) (kept_le test l)
     by true h = omega arith
     by false h = omega arith
 
-every_from_kept : {A : Type 0} (test : A → Bool) (l : List A) → length l ≤ length (filter test l) → every test l ≡ true
+every_from_kept : {A : Type 0} (test : A → Bool) (l : List A) → length l ≤ length (filter test l) → list_all test l ≡ true
 every_from_kept test [] h = refl
 every_from_kept test (a ∷ l) h = by (test a) refl (λ k. every_from_kept test l k) h
   where
-    by : (b : Bool) → test a ≡ b → (length l ≤ length (filter test l) → every test l ≡ true)
-        → suc (length l) ≤ length (cond b (a ∷ filter test l) (filter test l)) → every test (a ∷ l) ≡ true
-    by true e ih k = and_from (test a) (every test l) e (ih (omega arith))
+    by : (b : Bool) → test a ≡ b → (length l ≤ length (filter test l) → list_all test l ≡ true)
+        → suc (length l) ≤ length (cond b (a ∷ filter test l) (filter test l)) → list_all test (a ∷ l) ≡ true
+    by true e ih k = and_from (test a) (list_all test l) e (ih (omega arith))
     by false e ih k = absurd (omega (arith, kept_le test l))
 
 module _ {I : Type 0} {Q : I → Type 0} (dec : (i : I) → Dec (Q i)) where
@@ -232,10 +231,10 @@ module _ {E : Type 0} {C : Codes} {code : E → ℕ} (L : FieldLaws E C code) wh
 
     -- ---- interpolation
 
-    through_passes : (f : List E) → Through X x y f (down n) → every (passes C (map code f)) P ≡ true
+    through_passes : (f : List E) → Through X x y f (down n) → list_all (passes C (map code f)) P ≡ true
     through_passes f h = every_from_kept (passes C (map code f)) P (omega (arith, long_P, errors_all f, none_missing (λ i. X.same (eval X f (x i)) (y i)) (down n) h))
 
-    passes_through : (f : List E) → every (passes C (map code f)) P ≡ true → Through X x y f (down n)
+    passes_through : (f : List E) → list_all (passes C (map code f)) P ≡ true → Through X x y f (down n)
     passes_through f e =
         all_from_none (λ i. X.same (eval X f (x i)) (y i)) (down n) (omega (arith, long_P, errors_all f, kept_from_every (passes C (map code f)) P e))
 
@@ -251,13 +250,13 @@ module _ {E : Type 0} {C : Codes} {code : E → ℕ} (L : FieldLaws E C code) wh
         let got : (collected X x y e (n - 1) (down n)).top ≡ f =
         took_right X x y f e (n - 1) (down n) (collected X x y e (n - 1) (down n)) (took X x y f e (n - 1) (down n) d (all_with (λ i h _ _. h) (down n) on on)) ls
         (omega (arith, length_down n, all_missing (λ i. X.same (eval X e (x i)) X.zero) (down n) (λ i z. not_root (x i) z))) in
-        kept_one (λ g. every (passes C g) P) (polynomials C.size (length P)) (map code f) (polynomials_apart C.size (length P))
+        kept_one (λ g. list_all (passes C g) P) (polynomials C.size (length P)) (map code f) (polynomials_apart C.size (length P))
         (polynomials_in C.size (length P) (map code f) (length-map f code ∙ lf ∙ sym long_P, codes_below f)) (through_passes f on)
         (λ g k h.
         let r = polynomials_are C.size (length P) g k in
         let b = lifted g r.1 in
         let lb : length b.0 ≡ length (down n) = sym (length-map b.0 code) ∙ ap length b.1 ∙ r.0 ∙ long_P ∙ sym (length_down n) in
-        sym b.1 ∙ ap (map code) (interpolation X x (down n) y b.0 d lb (passes_through b.0 (subst (λ g. every (passes C g) P ≡ true) (sym b.1) h))))
+        sym b.1 ∙ ap (map code) (interpolation X x (down n) y b.0 d lb (passes_through b.0 (subst (λ g. list_all (passes C g) P ≡ true) (sym b.1) h))))
         ∙ ap (λ f. map code f ∷ []) (sym got)
       where
         -- the polynomial 1 has no root

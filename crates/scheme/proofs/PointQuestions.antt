@@ -5,7 +5,6 @@ use Rattle.std.proofs.lemmas.List.{length-map}
 use Rattle.std.proofs.lemmas.Simd.{map-map}
 use Rattle.std.proofs.lemmas.Bool.{leb-true, and_parts}
 use Rattle.std.specs.List.{list_all}
-use Rattle.scheme.specs.Questions.{every}
 use Rattle.scheme.specs.Fitting.{distinct, points_refusal}
 use Rattle.scheme.specs.Held.{point_codes}
 use Rattle.scheme.specs.declared.types.Point.{Point}
@@ -13,7 +12,7 @@ use Rattle.scheme.specs.declared.types.PointsFault.{PointsFault}
 use Rattle.scheme.specs.declared.types.PointsFault.TheVariants.{Count, Repeated}
 
 -- a test of what is told of each element
-pub every_told : {A : Type 0} (test : ℕ → Bool) (f : A → ℕ) (list : List A) → list_all (λ a. test (f a)) list ≡ every test (map f list)
+pub every_told : {A : Type 0} (test : ℕ → Bool) (f : A → ℕ) (list : List A) → list_all (λ a. test (f a)) list ≡ list_all test (map f list)
 every_told test f [] = refl
 every_told test f (a ∷ list) = ap (λ b. test (f a) && b) (every_told test f list)
 

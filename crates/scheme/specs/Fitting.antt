@@ -1,9 +1,8 @@
 -- Which polynomials pass through given points, on codes. A point is the pair of the codes of its abscissa and its ordinate.
 -- Assumes nothing.
 use Rattle.std.specs.Prelude.{ℕ, zero, suc, ◌+◌, ◌-◌, ◌*◌, Bool, true, cond, not, ◌&&◌, List, [], ◌∷◌, ◌++◌, map, length, Some, None, Ok, Err, filter, Option, Result, ◌==◌, nat_le}
-use Rattle.std.specs.List.{range_with_len}
+use Rattle.std.specs.List.{range_with_len, list_all}
 use Rattle.fields.specs.Laws.{Codes}
-use Rattle.scheme.specs.Questions.{every}
 use Rattle.scheme.specs.Polynomial.{value_at_lem}
 use Rattle.scheme.specs.declared.types.PointsFault.{PointsFault}
 use Rattle.scheme.specs.declared.types.PointsFault.TheVariants.{Count, Repeated}
@@ -21,7 +20,7 @@ polynomials q (suc s) = before_each (range_with_len 0 q) (polynomials q s)
 -- no two of the numbers are equal
 abbrev pub distinct : List ℕ → Bool
 distinct [] = true
-distinct (a ∷ list) = every (λ b. not (a == b)) list && distinct list
+distinct (a ∷ list) = list_all (λ b. not (a == b)) list && distinct list
 
 abbrev pub first : {A : Type 0} → List A → Option A
 first [] = None
@@ -54,7 +53,7 @@ module _ (C : Codes) where
 
   -- the polynomials with a coefficient for each point that pass through all of them; by `one_interpolates` there is exactly one
   abbrev pub through : List (ℕ × ℕ) → List (List ℕ)
-  through points = filter (λ f. every (passes f) points) (polynomials C.size (length points))
+  through points = filter (λ f. list_all (passes f) points) (polynomials C.size (length points))
 
   -- what `decode` answers: the polynomial that fits, or nothing where none does
   abbrev pub decoded : List (ℕ × ℕ) → ℕ → Result (Option (List ℕ)) PointsFault

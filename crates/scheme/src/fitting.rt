@@ -1,8 +1,8 @@
 // The polynomial that passes through points, or through all but a few of them.
 ghost use Rattle.std.specs.Prelude.{◌≡◌, ◌+◌, ◌-◌, ◌*◌, ◌≤◌, not, ◌&&◌, map, length, ◌==◌, nat_le};
+ghost use Rattle.std.specs.List.{list_all};
 ghost use Rattle.scheme.specs.Fitting.{agreements as agreementsOf, decoded, distinct, interpolated, interpolated_at, passes as passesThrough, points_refusal};
 ghost use Rattle.scheme.specs.Held.{decode_told, interpolate_told, point_codes, polynomial_told, refusal_of, value_told};
-ghost use Rattle.scheme.specs.Questions.{every};
 
 use crate::arithmetic::{are_equal, value_at};
 use crate::decoding::{candidate, read_off, unit};
@@ -12,7 +12,7 @@ use fields::Field;
 
 // Whether no point has the abscissa x.
 fn is_new<F: Field>(points: &[Point<F::Elem>], x: F::Elem) -> bool
-    ensures { result ≡ every (λ b. not (F.code x == b)) (map (λ p. F.code p.x) points.now) }
+    ensures { result ≡ list_all (λ b. not (F.code x == b)) (map (λ p. F.code p.x) points.now) }
 {
     points.iter().all(|p| !are_equal::<F>(x, p.x))
 }

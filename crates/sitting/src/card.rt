@@ -2,11 +2,11 @@
 ghost use Rattle.runs.specs.Cards.{card_refusal, is_coded_lem};
 ghost use Rattle.sitting.specs.Faults.{card_number, card_told};
 ghost use Rattle.std.specs.List.{list_all};
-ghost use Rattle.std.specs.Prelude.{◌≡◌, nat_lt};
+ghost use Rattle.std.specs.Prelude.{◌≡◌};
 
 use crate::types::CardFault;
-use fields::{Doublable, Doubled, Field};
-use scheme::{Figures, Pair};
+use fields::{Doublable, Doubled};
+use scheme::{Figures, Pair, is_code};
 
 impl CardFault {
     // the number of the refusal
@@ -19,13 +19,6 @@ impl CardFault {
             CardFault::Code => 43,
         }
     }
-}
-
-// Whether n is the code of an element.
-fn is_code<F: Field>(n: u64) -> bool
-    ensures { result ≡ nat_lt n F.codes.size }
-{
-    F::from_code(n).is_some()
 }
 
 // Whether the value is a code of the field and the tag one of the doubled field.
@@ -43,7 +36,6 @@ fn are_coded<F: Doublable>(card: &[Pair]) -> bool
 }
 
 // Puts the questions about a card that is said to be participant i's.
-#[tactic(auto, using(crate::proofs::Asked::every_is_all))]
 pub fn ask_card<F: Doublable>(figures: &Figures, i: u64, card: &[Pair]) -> Result<(), CardFault>
     ensures { card_told result ≡ card_refusal F.Field.codes figures.now i card.now }
 {

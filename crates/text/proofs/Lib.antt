@@ -1,4 +1,3 @@
-pub mod Refused
 pub mod Digits
 pub mod Pieces
 pub mod Pairing

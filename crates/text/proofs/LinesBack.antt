@@ -1,13 +1,13 @@
 -- Lines that are written and read, and read and written.
 -- Assumes nothing.
 use Rattle.std.proofs.Common.{◌≡◌, ℕ, suc, ◌+◌, Bool, true, false, cond, List, [], ◌∷◌, ◌++◌, length, take, drop, Some, None, Ok, Err, Option, Result, sym, refl, ap, ◌∙◌, subst, append_assoc, one-add, arith}
+use Rattle.scheme.proofs.Acceptance.{all_yes}
+use Rattle.scheme.specs.Questions.{first_no, unless}
 use Rattle.std.specs.List.{list_all, prefix_len}
 use Rattle.std.specs.Str.{bytes_eq}
 use Rattle.std.proofs.lemmas.Slice.Eq.{bytes_eq-Decides}
 use Rattle.std.proofs.lemmas.List.{take-append-drop, take_at, drop_at}
 use Rattle.std.proofs.lemmas.Bool.{and_parts}
-use Rattle.text.specs.Refusals.{first_fault, unless_faulty}
-use Rattle.text.proofs.Refused.{all_passed}
 use Rattle.text.specs.Lines.{Kind, Name, Number, Numbers, OptionalNumbers, key_word, kind_of, in_content, is_content, begins, line, lines, with_content, and_then, written_line, written}
 use Rattle.text.specs.declared.types.Key.{Key}
 
@@ -59,14 +59,14 @@ module _ (at : ℕ) (key : Key) (content rest : List ℕ) (good : Good key conte
       ∙ ap (λ l. asked (begins (key_word key) line_text) l (prefix_len (in_content (kind_of key)) l)) behind
       ∙ ap (asked (begins (key_word key) line_text) (content ++ (10 ∷ rest))) run
       ∙ (λ j. answered (starts j) (take_at content (10 ∷ rest) (length content) refl j) (drop_at content (10 ∷ rest) (length content) refl j))
-      ∙ ap (λ b. unless_faulty (cond b None (Some (53, at))) (content, rest)) good.is
+      ∙ ap (λ b. unless (cond b None (Some (53, at))) (content, rest)) good.is
     where
       starts : begins (key_word key) line_text ≡ true
       starts = ap (λ front. bytes_eq front (key_word key)) (take_at (key_word key) (content ++ (10 ∷ rest)) (length (key_word key)) refl) ∙ same_itself (key_word key)
 
       answered : Bool → List ℕ → List ℕ → Result (List ℕ × List ℕ) (ℕ × ℕ)
       answered b c r =
-          unless_faulty (first_fault ((b, (52, at)) ∷ (is_content (kind_of key) c, (53, at)) ∷ (begins (10 ∷ []) r, (54, at)) ∷ [])) (c, drop 1 r)
+          unless (first_no ((b, (52, at)) ∷ (is_content (kind_of key) c, (53, at)) ∷ (begins (10 ∷ []) r, (54, at)) ∷ [])) (c, drop 1 r)
 
       asked : Bool → List ℕ → ℕ → Result (List ℕ × List ℕ) (ℕ × ℕ)
       asked b l end = answered b (take end l) (drop end l)
@@ -87,7 +87,7 @@ pub not_ok : {A E : Type 0} (e : E) (a : A) → ◌≡◌ {A = Result A E} (Err 
 not_ok e a p = let z : ◌≡◌ {A = ℕ} 0 1 = cc in omega arith
 
 -- an answer that is not refused
-pub unrefused : {A : Type 0} (o : Option (ℕ × ℕ)) (a b : A) → unless_faulty o a ≡ Ok b → (o ≡ None) × (a ≡ b)
+pub unrefused : {A : Type 0} (o : Option (ℕ × ℕ)) (a b : A) → unless o a ≡ Ok b → (o ≡ None) × (a ≡ b)
 unrefused None a b e = (refl, ok_same a b e)
 unrefused (Some x) a b e = absurd (not_ok x b e)
 
@@ -110,8 +110,8 @@ module _ (at : ℕ) (key : Key) (whole : List ℕ) where
   pub line_back : (content rest : List ℕ) → line at key whole ≡ Ok (content, rest)
       → (written_line key content ++ rest ≡ whole) × (is_content (kind_of key) content ≡ true)
   line_back content rest e =
-      let u = unrefused (first_fault line_questions) (take run_length rest_of, drop 1 (drop run_length rest_of)) (content, rest) e in
-      let told = all_passed line_questions u.0 in
+      let u = unrefused (first_no line_questions) (take run_length rest_of, drop 1 (drop run_length rest_of)) (content, rest) e in
+      let told = all_yes line_questions u.0 in
       let c-is : take run_length rest_of ≡ content = ap (λ (p : List ℕ × List ℕ). p.0) u.1 in
       let r-is : drop 1 (drop run_length rest_of) ≡ rest = ap (λ (p : List ℕ × List ℕ). p.1) u.1 in
       let ending : (10 ∷ []) ++ rest ≡ drop run_length rest_of = ap (λ l. (10 ∷ []) ++ l) (sym r-is) ∙ begins_with (10 ∷ []) (drop run_length rest_of) told.1.1.0 in (

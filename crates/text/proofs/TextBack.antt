@@ -1,16 +1,14 @@
 -- An accepted text is written back unchanged.
 -- Assumes nothing.
 use Rattle.std.proofs.Common.{◌≡◌, ℕ, ◌*◌, Bool, true, false, cond, ◌||◌, leb, List, [], ◌∷◌, ◌++◌, map, length, is_ok, Some, None, Ok, Err, Option, Result, sym, refl, ap, ◌∙◌, subst, append-nil, arith}
-use Rattle.std.specs.List.{AllByRecursion}
+use Rattle.std.specs.List.{AllByRecursion, list_all}
 use Rattle.std.specs.Str.{bytes_eq}
 use Rattle.std.proofs.lemmas.Slice.Eq.{bytes_eq-Decides}
 use Rattle.std.proofs.lemmas.List.{nil_from_length}
 use Rattle.std.proofs.lemmas.Bool.{and_parts, and_from, both_ways, eqb-true, leb-true}
 use Rattle.fields.specs.Laws.{Codes}
 use Rattle.scheme.specs.Figures.{figures_questions, figures_answer}
-use Rattle.scheme.specs.Questions.{every, unless, all_codes}
-use Rattle.text.specs.Refusals.{first_fault}
-use Rattle.text.proofs.Refused.{all_passed}
+use Rattle.scheme.specs.Questions.{unless, all_codes, first_no}
 use Rattle.scheme.specs.declared.types.Figures.{Figures}
 use Rattle.scheme.specs.declared.types.Pair.{Pair}
 use Rattle.scheme.proofs.Acceptance.{all_yes}
@@ -65,7 +63,7 @@ tags_of [] (g ∷ tags) e = absurd (omega arith)
 tags_of (v ∷ values) [] e = absurd (omega arith)
 tags_of (v ∷ values) (g ∷ tags) e = ap (λ l. g ∷ l) (tags_of values tags (omega arith))
 
-coded_pairs : (C : Codes) (values tags : List ℕ) → all_codes C.size values ≡ true → all_codes (C.size * C.size) tags ≡ true → every (is_coded_lem C) (paired values tags) ≡ true
+coded_pairs : (C : Codes) (values tags : List ℕ) → all_codes C.size values ≡ true → all_codes (C.size * C.size) tags ≡ true → list_all (is_coded_lem C) (paired values tags) ≡ true
 coded_pairs C [] tags a b = refl
 coded_pairs C (v ∷ values) [] a b = refl
 coded_pairs C (v ∷ values) (g ∷ tags) a b =
@@ -111,8 +109,8 @@ module _ (text c₀ c₁ c₂ c₃ c₄ c₅ c₆ c₇ rest : List ℕ) where
 
   read_back : Back card_keys text all_contents rest → (r : Reading) → settled (Ok (all_contents, rest)) ≡ Ok r → WrittenBack text r
   read_back back r e =
-      let u = unrefused (first_fault told) tells r e in
-      subst (WrittenBack text) u.1 (told_back back (all_passed told u.0))
+      let u = unrefused (first_no told) tells r e in
+      subst (WrittenBack text) u.1 (told_back back (all_yes told u.0))
 
 -- there are eight contents
 contents_back : (text : List ℕ) (contents : List (List ℕ)) (rest : List ℕ) → Back card_keys text contents rest → (r : Reading) → settled (Ok (contents, rest)) ≡ Ok r → WrittenBack text r

@@ -1,6 +1,7 @@
 -- The text of a card that passes its questions fits, and is read as that card.
 -- Assumes nothing.
 use Rattle.std.proofs.Common.{◌≡◌, ℕ, ◌+◌, ◌*◌, ◌<◌, ◌≤◌, true, leb, List, [], ◌∷◌, ◌++◌, map, length, drop, is_ok, None, Ok, Err, decimal, sym, refl, ap, ◌∙◌, subst, mul-le-mul, arith}
+use Rattle.scheme.proofs.Acceptance.{no_refusal}
 use Rattle.std.specs.List.{AllByRecursion, list_all}
 use Rattle.std.proofs.lemmas.Fmt.{length-decimal-le}
 use Rattle.std.proofs.ByRecursion.{All-map, All-weaker}
@@ -24,9 +25,6 @@ use Rattle.text.proofs.LinesTold.{named_back}
 use Rattle.text.proofs.NumbersBack.{decimal_digits, decimal_is_number, value_back, listed_is_list, numbers_back, listed_bytes}
 use Rattle.text.proofs.Passing.{Passed, passed, size_small}
 use Rattle.text.proofs.Lengths.{word_short, name_short, length_listed}
-use Rattle.runs.proofs.Lists.{no_refusal}
-use Rattle.text.specs.Refusals.{unless_faulty}
-use Rattle.text.proofs.Refused.{no_fault}
 
 -- values and tags of a card
 
@@ -201,5 +199,5 @@ module _ (field : FieldName) (f : Figures) (number : ℕ) (card : List Pair) (un
       ∙ ap settled (lines_read 1 card_keys (card_contents field f number card) goods)
       ∙ (λ j. answer (named_back field j) (value_back f.n n_small j) (value_back f.k k_small j) (value_back f.t t_small j) (value_back f.d d_small j)
       (value_back number number_small j) (numbers_back values (some _) (values_small (omega arith)) j) (numbers_back tags (some _) (tags_small (omega arith)) j) [])
-      ∙ ap (λ o. unless_faulty o (reading field f.n f.k f.t f.d number values tags [])) (no_fault (reading_questions field f.n f.k f.t f.d number values tags []) asked)
+      ∙ ap (λ o. unless o (reading field f.n f.k f.t f.d number values tags [])) (no_refusal (reading_questions field f.n f.k f.t f.d number values tags []) asked)
       ∙ ap (λ c. Ok (reading_for field f number c)) (unpaired card)

@@ -7,12 +7,11 @@ use Rattle.fields.specs.Laws.{Codes}
 use Rattle.fields.specs.Byte.{byte}
 use Rattle.fields.specs.P251.{p251}
 use Rattle.scheme.specs.Figures.{figures_answer}
-use Rattle.scheme.specs.Questions.{first_no, all_codes}
+use Rattle.scheme.specs.Questions.{first_no, all_codes, unless}
 use Rattle.scheme.specs.declared.types.Figures.{Figures}
 use Rattle.scheme.specs.declared.types.Pair.{Pair}
 use Rattle.runs.specs.Cards.{Card as Pairs, card_questions}
 use Rattle.text.specs.Lines.{field_name, keys_with, lines, written}
-use Rattle.text.specs.Refusals.{first_fault, unless_faulty}
 use Rattle.text.specs.Numbers.{digits_value, numbers_in, listed}
 use Rattle.text.specs.declared.types.FieldName.{FieldName}
 use Rattle.text.specs.declared.types.FieldName.TheVariants.{Byte, P251}
@@ -69,7 +68,7 @@ module _ (field : FieldName) (n k t d number : ℕ) (values tags rest : List ℕ
       ∷ []
 
   abbrev pub answer : Result Reading (ℕ × ℕ)
-  answer = unless_faulty (first_fault reading_questions) reading
+  answer = unless (first_no reading_questions) reading
 
 -- by the contents of the lines
 abbrev pub settled : Result (List (List ℕ) × List ℕ) (ℕ × ℕ) → Result Reading (ℕ × ℕ)

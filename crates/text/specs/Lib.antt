@@ -1,4 +1,3 @@
-pub mod Refusals
 pub mod Numbers
 pub mod Lines
 pub mod Parts

@@ -1,10 +1,10 @@
 -- The lines of a text: a key with an equals sign, a content, and a byte 10.
 -- Assumes nothing.
 use Rattle.std.specs.Prelude.{ℕ, suc, Bool, not, ◌||◌, List, [], ◌∷◌, ◌++◌, length, take, drop, Ok, Err, codes, Result, ◌==◌}
+use Rattle.scheme.specs.Questions.{first_no, unless}
 use Rattle.std.specs.Char.{is_ascii_digit}
 use Rattle.std.specs.List.{prefix_len}
 use Rattle.std.specs.Str.{bytes_eq}
-use Rattle.text.specs.Refusals.{first_fault, unless_faulty}
 use Rattle.text.specs.Numbers.{is_number, is_list}
 use Rattle.text.specs.declared.types.FieldName.{FieldName}
 use Rattle.text.specs.declared.types.FieldName.TheVariants.{Byte, P251}
@@ -76,7 +76,7 @@ abbrev pub line : ℕ → Key → List ℕ → Result (List ℕ × List ℕ) (�
 line at key text =
     let behind = drop (length (key_word key)) text in
     let end = prefix_len (in_content (kind_of key)) behind in
-    unless_faulty (first_fault (
+    unless (first_no (
     (begins (key_word key) text, (52, at))
     ∷ (is_content (kind_of key) (take end behind), (53, at))
     ∷ (begins (10 ∷ []) (drop end behind), (54, at))

@@ -1,12 +1,12 @@
 -- A dealing sheet: eight lines that tell what `deal` takes.
 -- Assumes nothing.
 use Rattle.std.specs.Prelude.{ℕ, ◌+◌, ◌-◌, ◌*◌, Bool, cond, ◌&&◌, List, [], ◌∷◌, length, take, Ok, Err, Result, ◌==◌, nat_le, slice_index_or}
+use Rattle.scheme.specs.Questions.{first_no, unless}
 use Rattle.scheme.specs.Dealing.{deal_number}
 use Rattle.scheme.specs.Figures.{figures_answer, figures_number}
 use Rattle.text.specs.Card.{field_named_lem}
 use Rattle.text.specs.Faults.{fault_told}
 use Rattle.text.specs.Lines.{keys_with, lines}
-use Rattle.text.specs.Refusals.{first_fault, unless_faulty}
 use Rattle.text.specs.Numbers.{digits_value, numbers_in, optional_numbers_in}
 use Rattle.text.specs.declared.types.FieldName.{FieldName}
 use Rattle.text.specs.declared.types.Key.{Key}
@@ -35,7 +35,7 @@ module _ (field : FieldName) (n k t d : ℕ) (key values tags : List ℕ) where
       ∷ []
 
   abbrev pub with_figures : Result (ℕ × ℕ × ℕ × ℕ) ℕ → Result DealingSheet (ℕ × ℕ)
-  with_figures (Ok f) = unless_faulty (first_fault sheet_questions) (record { field = field; figures = f; key = key; values = values; tags = tags })
+  with_figures (Ok f) = unless (first_no sheet_questions) (record { field = field; figures = f; key = key; values = values; tags = tags })
   with_figures (Err e) = Err (e, 0)
 
   abbrev pub sheet_answer : List ℕ → Result DealingSheet (ℕ × ℕ)

@@ -1,13 +1,12 @@
 // The reader of card texts.
 ghost use Rattle.std.specs.Prelude.{◌≡◌, ◌*◌, ◌≤◌, [], ◌∷◌, length, take, decimal};
-ghost use Rattle.scheme.specs.Questions.{all_codes};
+ghost use Rattle.scheme.specs.Questions.{all_codes, first_no};
 ghost use Rattle.std.specs.Option.{option_map};
 ghost use Rattle.text.specs.Card.{answer, card_keys, codes_of, paired, part_of, read_card};
 ghost use Rattle.text.specs.Faults.{fault_told, refusal_told};
 ghost use Rattle.text.specs.Lines.{lines as lines_of};
 ghost use Rattle.text.specs.Numbers.{numbers_in};
 ghost use Rattle.text.specs.Parts.{lines_told, list_text};
-ghost use Rattle.text.specs.Refusals.{first_fault};
 ghost use Rattle.text.specs.Shown.{read_told, shown};
 
 use crate::lines::take_lines;
@@ -17,7 +16,7 @@ use scheme::{Figures, Pair, are_codes, figures};
 
 // Asks whether the values are codes of the field, and the tags codes of the doubled field.
 fn ask_codes<F: Doublable>(values: &[u64], tags: &[u64]) -> Result<(), TextFault>
-    ensures { refusal_told result ≡ first_fault ((all_codes F.Field.codes.size values.now, (59, 7)) ∷ (all_codes (F.Field.codes.size * F.Field.codes.size) tags.now, (59, 8)) ∷ []) }
+    ensures { refusal_told result ≡ first_no ((all_codes F.Field.codes.size values.now, (59, 7)) ∷ (all_codes (F.Field.codes.size * F.Field.codes.size) tags.now, (59, 8)) ∷ []) }
 {
     if !are_codes::<F>(values) {
         return Err(TextFault::Code { line: 7 });
@@ -30,7 +29,7 @@ fn ask_codes<F: Doublable>(values: &[u64], tags: &[u64]) -> Result<(), TextFault
 
 // Asks the same over the field of this name. (`ask_codes` takes the field as a type, so a match names each.)
 fn ask_named(field: FieldName, values: &[u64], tags: &[u64]) -> Result<(), TextFault>
-    ensures { refusal_told result ≡ first_fault ((all_codes (codes_of field).size values.now, (59, 7)) ∷ (all_codes ((codes_of field).size * (codes_of field).size) tags.now, (59, 8)) ∷ []) }
+    ensures { refusal_told result ≡ first_no ((all_codes (codes_of field).size values.now, (59, 7)) ∷ (all_codes ((codes_of field).size * (codes_of field).size) tags.now, (59, 8)) ∷ []) }
 {
     match field {
         FieldName::Byte => ask_codes::<Byte>(values, tags),
