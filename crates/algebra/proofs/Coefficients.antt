@@ -1,10 +1,10 @@
 -- A value by a fold, and turns of loops that compute b + (X - a)·f and f + c·g in place, one coefficient at a time.
 -- Assumes nothing.
-use Rattle.std.proofs.Common.{◌≡◌, ℕ, ◌+◌, ◌<◌, ◌≤◌, ◌⊎◌, List, [], ◌∷◌, ◌++◌, length, get_or, take, drop, set, reverse, sym, refl, ap, ◌∙◌, ap₂, append_assoc, ⊎_elim, arith, drop-set-lt}
+use Rattle.std.proofs.Common.{◌≡◌, ℕ, ◌+◌, ◌<◌, ◌≤◌, List, [], ◌∷◌, ◌++◌, length, get_or, take, drop, set, reverse, sym, refl, ap, ◌∙◌, ap₂, append_assoc, ⊎_elim, arith, drop-set-lt}
 use Rattle.std.specs.List.{fold}
 use Rattle.std.proofs.lemmas.Bool.{cases_lt}
 use Rattle.std.proofs.lemmas.List.Sums.{fold-append}
-use Rattle.std.proofs.lemmas.List.{drop_more, drop_all, take_all, take_more, take_more_set, length-take-le, reverse-append}
+use Rattle.std.proofs.lemmas.List.{drop_more, take_more, take_more_set, length-take-le, reverse-append}
 use Rattle.algebra.specs.Field.{Field}
 use Rattle.algebra.specs.Polynomial.{eval, plus, scale, lin, times_root}
 use Rattle.algebra.proofs.Unique.{length_plus_left, length_plus_right, length_scale}
@@ -30,10 +30,6 @@ module _ {K : Type 0} (X : Field K) where
       ∙ append_assoc (take i f) (v ∷ []) (lin X a c (drop (i + 1) f))
       ∙ ap (λ z. take i f ++ z ∷ lin X a c (drop (i + 1) f)) vis
       ∙ sym (ap (λ z. take i f ++ lin X a p z) (drop_more f i c h ∙ ap (λ z. z ∷ drop (i + 1) f) (sym is)))
-
-  -- all are written over, and the last coefficient stays to be written
-  pub lin_all : (f : List K) (i : ℕ) (a p : K) → length f ≤ i → f ++ p ∷ [] ≡ take i f ++ lin X a p (drop i f)
-  lin_all f i a p h = sym (ap₂ (λ l r. l ++ lin X a p r) (take_all i f h) (drop_all i f h))
 
   -- (X - z)·f as b + (X - z)·f with b = 0
   pub times_root_is : (z b : K) (f : List K) → 0 < length f → b ≡ X.zero → lin X z b f ≡ times_root X z f

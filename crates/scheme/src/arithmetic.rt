@@ -15,6 +15,7 @@ pub(crate) fn are_equal<F: Field>(a: F::Elem, b: F::Elem) -> bool
     F::to_code(a) == F::to_code(b)
 }
 
+// Whether a is zero.
 pub(crate) fn is_zero<F: Field>(a: F::Elem) -> bool
     ensures { (T result → F.code a ≡ 0) × (F.code a ≡ 0 → T result) }
 {
@@ -57,7 +58,7 @@ pub(crate) fn multiply_root<F: Field>(p: &mut Polynomial<F::Elem>, z: F::Elem)
     ensures { Over F.codes F.code (λ X. p.new ≡ times_root X z p.old) }
 {
     if p.len > 0 {
-        let last = times_linear::<F>(&mut p.coeffs[..p.len], z, F::zero());
+        let last = times_linear::<F>(&mut p.coefficients[..p.len], z, F::zero());
         p.push(last);
     }
 }
@@ -73,7 +74,7 @@ pub(crate) fn add_multiple<F: Field>(
     for (i, b) in r.as_slice().iter().enumerate() {
         let more = F::mul(c, *b);
         if i < p.len {
-            p.coeffs[i] = F::add(p.coeffs[i], more);
+            p.coefficients[i] = F::add(p.coefficients[i], more);
         } else {
             p.push(more);
         }

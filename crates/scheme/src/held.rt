@@ -8,7 +8,7 @@ use std::marker::Model;
 // It is no `arrayvec::ArrayVec`, which asks a default value of every element; a field does not promise one.
 #[derive(Drop)]
 pub struct Polynomial<E> {
-    pub(crate) coeffs: [E; 64],
+    pub(crate) coefficients: [E; 64],
     pub(crate) len: usize,
 }
 
@@ -17,22 +17,23 @@ impl<E> Model for Polynomial<E> {
 
     ghost Value = { List E };
 
-    ghost view = { λ p. take p.len p.coeffs };
+    ghost view = { λ p. take p.len p.coefficients };
 
-    ghost invariant = { λ p. (p.len ≤ 64) × (length p.coeffs ≡ 64) };
+    ghost invariant = { λ p. (p.len ≤ 64) × (length p.coefficients ≡ 64) };
 }
 
 impl<E: Copy> Polynomial<E> {
-    // No coefficients: the polynomial 0.
+    // No coefficients: the polynomial 0. The filler stands in the places that are not used.
     pub(crate) fn empty(filler: E) -> Self
         ensures { result ≡ [] }
     {
         Polynomial {
-            coeffs: [filler; 64],
+            coefficients: [filler; 64],
             len: 0,
         }
     }
 
+    // How many coefficients there are.
     pub(crate) fn len(&self) -> usize
         ensures value { result ≡ length self.now }
         ensures fits { result ≤ 64 }
@@ -40,11 +41,12 @@ impl<E: Copy> Polynomial<E> {
         self.len
     }
 
+    // The coefficients.
     pub(crate) fn as_slice(&self) -> &[E]
         ensures value { result.now ≡ self.now }
         ensures fits { length result.now ≤ 64 }
     {
-        &self.coeffs[..self.len]
+        &self.coefficients[..self.len]
     }
 
     // One coefficient more, at the highest power.
@@ -52,7 +54,7 @@ impl<E: Copy> Polynomial<E> {
         requires { length self.old < 64 }
         ensures { self.new ≡ self.old ++ c ∷ [] }
     {
-        self.coeffs[self.len] = c;
+        self.coefficients[self.len] = c;
         self.len += 1;
     }
 }

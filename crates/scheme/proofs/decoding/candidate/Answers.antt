@@ -6,7 +6,6 @@ use Rattle.fields.specs.Elements.{elements}
 use Rattle.scheme.specs.Held.{abscissae, ordinates, ratio, state}
 use Rattle.scheme.specs.declared.held.State.{State}
 use Rattle.scheme.specs.declared.types.Point.{Point}
-use Rattle.scheme.proofs.Memory.{roomy}
 use Rattle.scheme.proofs.Points.{collected_front, run_front}
 use Rattle.scheme.proofs.decoding.candidate.Goals as goal
 
@@ -25,11 +24,6 @@ read {E} X points t n s e ran =
     either : (b : Bool) → (cond b s.first s.second).bottom ≡ (cond b (ratio X s.first) (ratio X s.second)).bottom
     either true = refl
     either false = refl
-
-pub run-s-requires : goal.run-s-requires
-run-s-requires g c =
-    let n = 3 * c.args.t + 1 in
-    ((roomy g.row.F-Elem g.F.Field.codes g.met.F.Field.laws.on_codes g.met.F.Field.room).state, (omega (arith, length-take-le n c.args.points.now (omega arith)), omega arith))
 
 pub returns : goal.returns
 returns g c = λ L.

@@ -5,11 +5,8 @@ use Rattle.algebra.proofs.Candidate.{length_down}
 use Rattle.fields.specs.Elements.{elements}
 use Rattle.scheme.specs.Held.{ratio, abscissae, ordinates}
 use Rattle.scheme.proofs.Memory.{roomy}
-use Rattle.scheme.proofs.Points.{over, at_x, at_y}
+use Rattle.scheme.proofs.Points.{at_x, at_y}
 use Rattle.scheme.proofs.decoding.read_off.Goals as goal
-
-pub loop-p-init : goal.loop-p-init
-loop-p-init g c = λ L. ap₂ (over (elements L)) c.nothing.ensures (c.unit.ensures L)
 
 pub loop-p-preserved : goal.loop-p-preserved
 loop-p-preserved g c = λ L.

@@ -1,20 +1,10 @@
-use Rattle.std.proofs.Common.{◌≡◌, List, map, Some, None, Option, sym, ap, ◌∙◌, arith}
+use Rattle.std.proofs.Common.{◌≡◌, List, map, Some, None, Option, sym, ap, ◌∙◌}
 use Rattle.scheme.specs.Fitting.{first, points_refusal, through, unless_refused}
 use Rattle.scheme.specs.Held.{point_codes}
 use Rattle.scheme.specs.declared.types.PointsFault.{PointsFault}
 use Rattle.scheme.proofs.Fitted.{through_one}
-use Rattle.scheme.proofs.Memory.{roomy}
 use Rattle.scheme.proofs.PointQuestions.{bounds, settled}
 use Rattle.scheme.proofs.fitting.interpolate.Goals as goal
-
-pub overflow_sub-points : goal.overflow_sub-points
-overflow_sub-points g c = (bounds g.F.Field.code c.args.points.now 1 c.in_ok-ask_points.ensures).0
-
-pub read_off-requires : goal.read_off-requires
-read_off-requires g c =
-    let high = (bounds g.F.Field.code c.args.points.now 1 c.in_ok-ask_points.ensures).1 in
-    let room = roomy g.row.F-Elem g.F.Field.codes g.met.F.Field.laws.on_codes g.met.F.Field.room in
-    (room.polynomial, (omega arith, omega arith))
 
 pub returns : goal.returns
 returns g c =
