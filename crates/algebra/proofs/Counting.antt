@@ -191,3 +191,10 @@ at_most (a ∷ l) r d h =
     let t = take_out r a h.0 in
     let k = at_most l t.0 d.1 (all_with t.2 l d.0 h.1) in
     omega (arith, t.1)
+
+-- there is only one number of things that have a property
+pub exactly_same : {A : Type 0} {m n : ℕ} {P : A → Type 0} → Exactly m P → Exactly n P → m ≡ n
+exactly_same x y =
+    let a = at_most x.list y.list x.apart (all_from_in x.list (λ b k. y.complete b (all_in _ x.list b x.sound k))) in
+    let b = at_most y.list x.list y.apart (all_from_in y.list (λ b k. x.complete b (all_in _ y.list b y.sound k))) in
+    omega (arith, x.count, y.count)

@@ -210,20 +210,25 @@ reduced_each_turn =
     bilinear_same (over_bits xtime 8) product (over_bits_left xtime xtime_linear 8) (over_bits_right xtime 8) product_left product_right
     (pairs (over_bits xtime 8) product tt)
 
--- one turn of the program's loop
-pub turn : (k s a b : ℕ) → k < 8 → a < 256
+-- one turn: the lowest bit of b times a joins the sum
+pub turn : (k s a b : ℕ) → k < 8 → bit_xor (bit_xor s (b % 2 * a)) (over_bits xtime (8 - (k + 1)) (xtime a) (b / 2)) ≡ bit_xor s (over_bits xtime (8 - k) a b)
+turn k s a b h =
+    xor_assoc s (b % 2 * a) (over_bits xtime (8 - (k + 1)) (xtime a) (b / 2)) ∙ ap (λ t. bit_xor s (over_bits xtime t a b)) (left_is k h)
+  where
+    left_is : (k : ℕ) → k < 8 → suc (8 - (k + 1)) ≡ 8 - k
+    left_is k h = omega arith
+
+-- the same in the words of the program's loop
+pub loop_turn : (k s a b : ℕ) → k < 8 → a < 256
     → bit_xor (bit_xor s (bit_and b 1 * a)) (over_bits xtime (8 - (k + 1)) (bit_xor (a * 2 % 256) (a / 128 * 27)) (b / 2))
     ≡ bit_xor s (over_bits xtime (8 - k) a b)
-turn k s a b h ha =
+loop_turn k s a b h ha =
     ap₂ (λ (l p : ℕ). bit_xor (bit_xor s (l * a)) (over_bits xtime (8 - (k + 1)) p (b / 2))) (and_mask b 1)
     (ap (λ t. bit_xor (a * 2 % 256) (t * 27)) (top a ha))
-    ∙ xor_assoc s (b % 2 * a) (over_bits xtime (8 - (k + 1)) (xtime a) (b / 2)) ∙ ap (λ t. bit_xor s (over_bits xtime t a b)) (left_is k h)
+    ∙ turn k s a b h
   where
     top : (a : ℕ) → a < 256 → a / 128 ≡ a / 128 % 2
     top a h = omega arith
-
-    left_is : (k : ℕ) → k < 8 → suc (8 - (k + 1)) ≡ 8 - k
-    left_is k h = omega arith
 
 pub ended : (k s a b : ℕ) → 8 ≤ k → bit_xor s (over_bits xtime (8 - k) a b) ≡ s
 ended k s a b h = ap (λ t. bit_xor s (over_bits xtime t a b)) (none_left k h) ∙ xor_zero_r s

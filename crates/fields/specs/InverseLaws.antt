@@ -1,12 +1,13 @@
--- The inverse by what it means: it is found where there is one, and it is the only one.
+-- The inverse by what it means: it is found where there is one, it is the only one, and a table of inverses has it.
 -- Assumes nothing.
-use Rattle.std.specs.Prelude.{◌≡◌, ℕ, zero, suc, ◌<◌, List, ◌==◌, ◌≢◌, slice_index}
+use Rattle.std.specs.Prelude.{◌≡◌, ℕ, zero, suc, ◌<◌, Bool, true, false, cond, T, List, ◌==◌, ◌≢◌, nat_lt, slice_index}
 use Rattle.std.proofs.Math.Path.{refl}
-use Rattle.std.proofs.Common.{sym, ◌∙◌, ap, ⊎_elim, eq-or-lt_of_le, le_of_suc-le-suc, not-suc-le-zero, arith}
-use Rattle.std.proofs.lemmas.Bool.{cond_both, eqb-true, eqb-false, cases_eq}
+use Rattle.std.proofs.Common.{sym, ◌∙◌, ap, subst, ⊎_elim, eq-or-lt_of_le, le_of_suc-le-suc, not-suc-le-zero, arith, eqb→eq, ltb→lt}
+use Rattle.std.proofs.lemmas.Bool.{cond_both, eqb-true, eqb-false, eq-eqb, ne_eqb, cond-true, cond-false, cases_eq}
 use Rattle.fields.specs.Elements.{one_below}
 use Rattle.fields.specs.Laws.{Codes, Laws}
 use Rattle.fields.specs.Inverse.{inverse_under, InverseOf, InverseTable}
+use Rattle.fields.specs.Tests.{all_below, at_each}
 
 module _ (product : ℕ → ℕ → ℕ) where
   pub found : (n a b : ℕ) → b < n → product a b ≡ 1 → product a (inverse_under n product a) ≡ 1
@@ -44,12 +45,26 @@ module _ {C : Codes} (L : Laws C) where
       ⊎_elim (λ e. i.of_zero e ∙ sym (ap C.inverse e ∙ L.inverse_zero))
       (λ n. only a b (C.inverse a) h i.below (L.inverse_below a h) (i.of_others n) (L.product_inverse a h n)) (cases_eq a 0)
 
-  -- a table of the inverses has their rule
-  pub table_of_inverses : (table : List ℕ) → ((a : ℕ) → a < C.size → slice_index table a ≡ C.inverse a) → InverseTable C table
-  unfolding InverseTable
-  table_of_inverses table h a l =
-      rw (h a l) (record {
-        below = L.inverse_below a l;
-        of_zero = λ e. ap C.inverse e ∙ L.inverse_zero;
-        of_others = L.product_inverse a l;
-      })
+-- the rule of a table as one test over all of its entries, which the prover computes
+abbrev right_entry : Codes → List ℕ → ℕ → Bool
+right_entry C table a =
+    cond (nat_lt (slice_index table a) C.size) (cond (a == 0) (slice_index table a == 0) (C.product a (slice_index table a) == 1)) false
+
+pub table_by_test : (C : Codes) (table : List ℕ) → T (all_below C.size (right_entry C table)) → InverseTable C table
+unfolding InverseTable
+table_by_test C table t a h = by (nat_lt b C.size) (ltb→lt b C.size) (at_each (right_entry C table) C.size t a h)
+  where
+    b : ℕ
+    b = slice_index table a
+
+    by : (below : Bool) → (T below → b < C.size) → T (cond below (cond (a == 0) (b == 0) (C.product a b == 1)) false) → InverseOf C a b
+    by true k s = record {
+      below = k tt;
+      of_zero = λ e. eqb→eq b 0 (subst T (cond-true (a == 0) _ _ (eq-eqb a 0 e)) s);
+      of_others = λ n. eqb→eq (C.product a b) 1 (subst T (cond-false (a == 0) _ _ (ne_eqb a 0 n)) s);
+    }
+    by false k s = absurd s
+
+pub entry : (C : Codes) (table : List ℕ) → InverseTable C table → (a : ℕ) → a < C.size → InverseOf C a (slice_index table a)
+unfolding InverseTable
+entry C table t = t

@@ -62,7 +62,7 @@ impl Field for Byte {
 
 // The product of two bytes. It goes through all eight bits of b whatever they are: no table, and no branch on an operand,
 // so that its time tells nothing of a key.
-#[tactic(auto, using(crate::specs::ByteLaws::reduced_each_turn, crate::specs::ByteLaws::turn, crate::specs::ByteLaws::ended))]
+#[tactic(auto, using(crate::specs::ByteLaws::reduced_each_turn, crate::specs::ByteLaws::loop_turn, crate::specs::ByteLaws::ended))]
 fn multiply(a: u8, b: u8) -> u8
     ensures { result ≡ product a b }
 {

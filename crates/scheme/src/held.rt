@@ -33,8 +33,8 @@ impl<E: Copy> Polynomial<E> {
         }
     }
 
-    // How many coefficients there are.
-    pub(crate) fn len(&self) -> usize
+    // How many coefficients there are, at most 64.
+    pub fn len(&self) -> usize
         ensures value { result ≡ length self.now }
         ensures fits { result ≤ 64 }
     {

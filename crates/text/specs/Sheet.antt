@@ -13,7 +13,7 @@ use Rattle.text.specs.declared.types.Key.{Key}
 use Rattle.text.specs.declared.types.Key.TheVariants.{Secret, ValueCoefficients, TagCoefficients}
 use Rattle.text.specs.declared.types.Sheet.{Sheet}
 use Rattle.text.specs.declared.types.SheetFault.{SheetFault}
-use Rattle.text.specs.declared.types.SheetFault.TheVariants.{Line, Figures, Deal}
+use Rattle.text.specs.declared.types.SheetFault.TheVariants.{TooLong, Line, Figures, Deal}
 
 abbrev pub sheet_keys : List Key
 sheet_keys = keys_with Secret ValueCoefficients TagCoefficients
@@ -54,6 +54,7 @@ read_sheet_lem text = cond (nat_le (length text) 16384) (sheet_settled (lines 1 
 
 -- the number and line of each refusal
 abbrev pub sheet_fault_told : SheetFault → ℕ × ℕ
+sheet_fault_told TooLong = (51, 0)
 sheet_fault_told (Line e) = fault_told e
 sheet_fault_told (Figures e) = (figures_number e, 0)
 sheet_fault_told (Deal e) = (deal_number e, 0)

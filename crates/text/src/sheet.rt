@@ -85,7 +85,7 @@ pub fn read_sheet(text: &[u8]) -> Result<Sheet, SheetFault>
     ensures { sheet_told result ≡ read_sheet_lem text.now }
 {
     if text.len() > 16384 {
-        return Err(SheetFault::Line(TextFault::TooLong));
+        return Err(SheetFault::TooLong);
     }
     settle_sheet(&take_lines(
         Key::Secret,
@@ -168,6 +168,7 @@ impl SheetFault {
         ensures { result ≡ (sheet_fault_told self.now).0 }
     {
         match self {
+            SheetFault::TooLong => 51,
             SheetFault::Line(e) => e.number(),
             SheetFault::Figures(e) => e.number(),
             SheetFault::Deal(e) => e.number(),

@@ -59,7 +59,7 @@ pub(crate) enum Key {
 // Why a text is refused, with the line where that is not always the same.
 #[derive(Clone, Copy, PartialEq, Eq, Debug)]
 pub enum TextFault {
-    // the text has more than 1,024 bytes, or a sheet more than 16,384
+    // the text has more than 1,024 bytes
     TooLong,
     // the line does not begin with its key and an equals sign
     Key { line: u32 },
@@ -142,7 +142,9 @@ pub struct Sheet {
 // Why a dealing sheet is refused.
 #[derive(Clone, Copy, PartialEq, Eq, Debug)]
 pub enum SheetFault {
-    // the text is too long, a line is refused, or something follows the last
+    // the text has more than 16,384 bytes
+    TooLong,
+    // a line is refused, or something follows the last
     Line(TextFault),
     // the figures do not pass
     Figures(FiguresFault),

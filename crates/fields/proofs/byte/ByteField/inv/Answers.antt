@@ -1,10 +1,12 @@
+use Rattle.fields.specs.declared.inverses.TheConstants.{BYTE}
+use Rattle.fields.specs.Byte.{byte}
 use Rattle.fields.specs.ByteLaws.{byte_laws}
-use Rattle.fields.proofs.Tables.{byte_entry}
+use Rattle.fields.specs.InverseLaws.{entry, inverse_is}
+use Rattle.fields.proofs.Tables.{byte_table}
 use Rattle.fields.proofs.byte.ByteField.inv.Goals as goal
 
 pub invariant_of-result : goal.invariant_of-result
-invariant_of-result c =
-    let a = c.args.a in record { below = rw (byte_entry a.code a.below) (byte_laws.inverse_below a.code a.below) }
+invariant_of-result c = record { below = (entry byte BYTE byte_table c.args.a.code c.args.a.below).below }
 
 pub returns : goal.returns
-returns c = byte_entry c.args.a.code c.args.a.below
+returns c = inverse_is byte_laws c.args.a.code _ c.args.a.below (entry byte BYTE byte_table c.args.a.code c.args.a.below)
