@@ -56,7 +56,7 @@ pub(crate) fn multiply_root<F: Field>(p: &mut Polynomial<F::Elem>, z: F::Elem)
     }
 }
 
-// p becomes p + c·r.
+// p becomes p + c·r: p grows in the loop, so it is written by index.
 pub(crate) fn add_multiple<F: Field>(
     p: &mut Polynomial<F::Elem>,
     c: F::Elem,

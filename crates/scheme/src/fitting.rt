@@ -17,7 +17,7 @@ fn is_new<F: Field>(points: &[Point<F::Elem>], x: F::Elem) -> bool
     points.iter().all(|p| !F::same(x, p.x))
 }
 
-// Whether no two points have one abscissa.
+// Whether no two points have one abscissa: by recursion, as `distinct` is defined.
 fn are_distinct<F: Field>(points: &[Point<F::Elem>]) -> bool
     ensures { result ≡ distinct (map (λ p. F.code p.x) points.now) }
 {
