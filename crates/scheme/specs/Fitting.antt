@@ -1,7 +1,9 @@
 -- Which polynomials pass through given points, on codes. A point is the pair of the codes of its abscissa and its ordinate.
 -- Assumes nothing.
-use Rattle.std.specs.Prelude.{ℕ, zero, suc, ◌+◌, ◌-◌, ◌*◌, Bool, true, not, ◌&&◌, List, [], ◌∷◌, ◌++◌, map, length, Some, None, Ok, Err, filter, Option, Result, ◌==◌, nat_le}
+use Rattle.std.specs.Prelude.{ℕ, zero, suc, ◌+◌, ◌-◌, ◌*◌, Bool, true, not, ◌&&◌, List, [], ◌∷◌, ◌++◌, map, length, Some, None, filter, Option, Result, ◌==◌, nat_le}
 use Rattle.std.specs.List.{range_with_len, list_all}
+use Rattle.std.specs.Option.{option_map}
+use Rattle.std.specs.Result.{result_map_both}
 use Rattle.fields.specs.Laws.{Codes}
 use Rattle.scheme.specs.Polynomial.{value_at_lem}
 use Rattle.scheme.specs.Questions.{first_no, unless}
@@ -64,9 +66,7 @@ module _ (C : Codes) where
   interpolated points = unless (points_refusal points 1) (first (through points))
 
   abbrev pub value_of : ℕ → Result (Option (List ℕ)) PointsFault → Result (Option ℕ) PointsFault
-  value_of x (Ok None) = Ok None
-  value_of x (Ok (Some f)) = Ok (Some (value_at_lem C f x))
-  value_of x (Err e) = Err e
+  value_of x = result_map_both (option_map (λ f. value_at_lem C f x)) (λ e. e)
 
   -- what `interpolate_at` answers
   abbrev pub interpolated_at : List (ℕ × ℕ) → ℕ → Result (Option ℕ) PointsFault
