@@ -4,17 +4,11 @@ use Rattle.std.proofs.Common.{◌≡◌, ℕ, suc, ◌≤◌, Bool, true, false,
 use Rattle.std.proofs.lemmas.List.{length-map}
 use Rattle.std.proofs.lemmas.Simd.{map-map}
 use Rattle.std.proofs.lemmas.Bool.{leb-true, and_parts}
-use Rattle.std.specs.List.{list_all}
 use Rattle.scheme.specs.Fitting.{distinct, points_questions, points_refusal}
 use Rattle.scheme.specs.Held.{point_codes}
 use Rattle.scheme.specs.declared.types.Point.{Point}
 use Rattle.scheme.specs.declared.types.PointsFault.TheVariants.{Count, Repeated}
 use Rattle.scheme.proofs.Acceptance.{all_yes}
-
--- a test of what is told of each element
-pub every_told : {A : Type 0} (test : ℕ → Bool) (f : A → ℕ) (list : List A) → list_all (λ a. test (f a)) list ≡ list_all test (map f list)
-every_told test f [] = refl
-every_told test f (a ∷ list) = ap (λ b. test (f a) && b) (every_told test f list)
 
 -- how many pass a test of what is told of each
 pub kept_told : {A B : Type 0} (test : B → Bool) (f : A → B) (list : List A) → length (filter (λ a. test (f a)) list) ≡ length (filter test (map f list))
