@@ -1,13 +1,13 @@
 -- Worked examples, told by the same definitions that the contracts of the calls use.
 -- Assumes nothing.
 use Rattle.std.specs.Prelude.{◌≡◌, ℕ, List, [], ◌∷◌, replicate, Ok, Err, Result}
-use Rattle.std.proofs.Common.{lit≤}
 use Rattle.fields.specs.Laws.{Codes}
 use Rattle.fields.specs.Byte.{byte}
 use Rattle.fields.specs.P251.{p251}
 use Rattle.fields.specs.Doubled.{doubled}
 use Rattle.scheme.specs.Figures.{figures_answer}
 use Rattle.scheme.specs.Dealing.{dealing}
+use Rattle.scheme.specs.Worked.{five, pair}
 use Rattle.scheme.specs.declared.types.Figures.{Figures}
 use Rattle.scheme.specs.declared.types.Pair.{Pair}
 
@@ -23,22 +23,6 @@ abbrev pub Holds : Example → Type 0
 Holds (product C a b c) = C.product a b ≡ c
 Holds (figures n k t d told) = figures_answer n k t d ≡ told
 Holds (deal f key values tags buffer told shares) = dealing p251 0 250 f key values tags buffer ≡ (told, shares)
-
--- five participants, threshold four, one altered share borne, one symbol
-abbrev pub five : Figures
-five = record {
-  n = 5;
-  k = 4;
-  t = 1;
-  d = 1;
-  participants = (lit≤ tt, lit≤ tt);
-  threshold = (lit≤ tt, lit≤ tt);
-  altered = lit≤ tt;
-  symbols = (lit≤ tt, lit≤ tt);
-}
-
-abbrev pub pair : ℕ → ℕ → Pair
-pair value tag = record { value = value; tag = tag }
 
 abbrev pub examples : List Example
 examples =

@@ -45,11 +45,12 @@ twice_laws {E} {C} {code} L D = record {
         sym (join_high p (code x.low) (code x.high) (L.code_below x.low)) ∙ ap (λ (t : ℕ). t / p) e
         ∙ join_high p (code y.low) (code y.high) (L.code_below y.low)
 
-up_le : (k e m : ℕ) → k ≤ m → up k e ≤ e + m
+-- what alignment adds
+pub up_le : (k e m : ℕ) → k ≤ m → up k e ≤ e + m
 up_le k e m h = omega (arith, mod-le (k - e % k) k)
 
 -- two elements with what alignment adds
-pair_le : (b s : ℕ) → b ≤ 16 → up (max b (max b 1)) (up b (up b 0 + s) + s) ≤ 2 * s + 48
+pub pair_le : (b s : ℕ) → b ≤ 16 → up (max b (max b 1)) (up b (up b 0 + s) + s) ≤ 2 * s + 48
 pair_le b s h =
     let x = up b 0 + s in
     let y = up b x + s in

@@ -1,23 +1,15 @@
 -- The whole numbers modulo 251 are a field that can be doubled.
 -- Assumes nothing.
-use Rattle.std.specs.Prelude.{◌≡◌, ℕ, ◌+◌, ◌-◌, ◌*◌, ◌/◌, ◌%◌, ◌<◌, cond, ◌==◌, ◌≢◌}
-use Rattle.std.proofs.Common.{sym, ◌∙◌, ap, mod-lt, mod-eq_of_lt, add-mul, mul-add, mul_assoc, mul_comm, add_comm, mul-one, zero-mul, arith, lit≤}
-use Rattle.std.proofs.Math.Nat.{mod-add-mod, add-mod-mod, div-add-mod, add-mul-mod_self_left}
+use Rattle.std.specs.Prelude.{◌≡◌, ℕ, ◌+◌, ◌-◌, ◌*◌, ◌%◌, ◌<◌, cond, ◌==◌, ◌≢◌}
+use Rattle.std.proofs.Common.{sym, ◌∙◌, ap, mod-lt, mod-eq_of_lt, mul-add, mul_assoc, mul_comm, mul-one, zero-mul, arith, lit≤}
+use Rattle.std.proofs.Math.Nat.{mod-add-mod, add-mod-mod}
 use Rattle.std.proofs.lemmas.Bool.{cond-false, ne_eqb}
+use Rattle.std.proofs.lemmas.Nat.{mul-mod_first, mul-mod_second}
 use Rattle.fields.specs.P251.{sum, product, p251}
 use Rattle.fields.specs.Laws.{Laws, DoublableLaws}
 use Rattle.fields.specs.Inverse.{inverse_under}
 use Rattle.fields.specs.Tests.{all_below, equal_below, apart_below}
 use Rattle.fields.specs.InverseLaws.{bounded, none}
-
-mod_mul : (a b m : ℕ) → a % m * b % m ≡ a * b % m
-mod_mul a b m =
-    sym (add-mul-mod_self_left (a % m * b) m (a / m * b))
-    ∙ ap (λ t. t % m) (ap (λ t. a % m * b + t) (sym (mul_assoc m (a / m) b)) ∙ sym (add-mul (a % m) (m * (a / m)) b)
-    ∙ ap (λ t. t * b) (add_comm (a % m) (m * (a / m)) ∙ div-add-mod a m))
-
-mul_mod : (a b m : ℕ) → a * (b % m) % m ≡ a * b % m
-mul_mod a b m = ap (λ t. t % m) (mul_comm a (b % m)) ∙ mod_mul b a m ∙ ap (λ t. t % m) (mul_comm b a)
 
 under : (n : ℕ) → n % 251 < 251
 under n = mod-lt n (omega arith)
@@ -43,10 +35,10 @@ p251_laws = record {
   sum_zero = λ a h. omega arith;
   sum_negative = λ a h. omega arith;
   product_comm = λ a b ha hb. ap (λ t. t % 251) (mul_comm a b);
-  product_assoc = λ a b c ha hb hc. mod_mul (a * b) c 251 ∙ ap (λ t. t % 251) (mul_assoc a b c) ∙ sym (mul_mod a (b * c) 251);
+  product_assoc = λ a b c ha hb hc. mul-mod_first (a * b) c 251 ∙ ap (λ t. t % 251) (mul_assoc a b c) ∙ sym (mul-mod_second a (b * c) 251);
   product_one = λ a h. ap (λ t. t % 251) (mul-one a) ∙ mod-eq_of_lt h;
   product_sum = λ a b c ha hb hc.
-      mul_mod a (b + c) 251 ∙ ap (λ t. t % 251) (mul-add a b c)
+      mul-mod_second a (b + c) 251 ∙ ap (λ t. t % 251) (mul-add a b c)
       ∙ sym (mod-add-mod (a * b) 251 (a * c % 251) ∙ add-mod-mod (a * b) (a * c) 251);
   product_inverse = λ a h n. one_over a h ∙ cond-false (a == 0) 0 1 (ne_eqb a 0 n);
   inverse_zero = none product 251 0 (λ b h e. let z : 0 * b % 251 ≡ 0 = ap (λ t. t % 251) (zero-mul b) in omega arith);

@@ -6,7 +6,8 @@ use Rattle.fields.specs.P251.{p251}
 use Rattle.fields.specs.Doubled.{sum2, product2}
 use Rattle.fields.specs.P251Laws.{p251_doublable}
 use Rattle.runs.specs.Runs.{Run, start, ◌then◌, present, seal}
-use Rattle.runs.specs.Worked.{five, card, nines}
+use Rattle.scheme.specs.Worked.{five}
+use Rattle.runs.specs.Worked.{card, nines}
 use Rattle.runs.specs.Law.{Deal, Move, as_dealt, just, LawApplies}
 
 -- the worked deal

@@ -6,7 +6,7 @@ use Rattle.algebra.specs.Polynomial.{Apart, Distinct}
 use Rattle.algebra.specs.Count.{In}
 use Rattle.algebra.proofs.Counting.{all_in, all_from_in}
 use Rattle.runs.specs.Cards.{Card, Cards, card_of, lying_from, lying}
-use Rattle.runs.proofs.Lists.{distinct_counting}
+use Rattle.scheme.proofs.Enumerated.{distinct_counting}
 
 abbrev pub number : ℕ × Card → ℕ
 number a = a.0

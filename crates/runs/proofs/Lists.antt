@@ -1,12 +1,12 @@
 -- Tests over lists, questions, filters and the numbers of a range.
 -- Assumes nothing.
-use Rattle.std.proofs.Common.{◌≡◌, ℕ, zero, suc, ◌+◌, ◌<◌, ◌≤◌, Bool, true, false, cond, ◌&&◌, ◌||◌, List, [], ◌∷◌, map, length, filter, sym, refl, ap, ◌∙◌, subst, ap₂, inl, inr, true≢false, arith}
+use Rattle.std.proofs.Common.{◌≡◌, ℕ, ◌+◌, ◌<◌, ◌≤◌, Bool, true, false, cond, ◌&&◌, ◌||◌, List, [], ◌∷◌, map, length, filter, sym, refl, ap, ◌∙◌, subst, ap₂, inl, inr, true≢false, arith}
 use Rattle.std.specs.List.{range_with_len, list_all, list_any}
 use Rattle.std.proofs.ByRecursion.{all_kept_by, All-map}
 use Rattle.std.proofs.lemmas.Bool.{or_left, or_right, false_from_ne_true}
 use Rattle.algebra.specs.Polynomial.{Apart, Distinct}
 use Rattle.algebra.specs.Count.{In}
-use Rattle.algebra.proofs.Counting.{all_in, all_from_in}
+use Rattle.algebra.proofs.Counting.{all_in}
 use Rattle.scheme.proofs.Asking.{all_from_every}
 use Rattle.scheme.proofs.Enumerated.{in_counting, counting_in}
 
@@ -101,11 +101,6 @@ distinct_images x [] d = tt
 distinct_images x (a ∷ l) d = (All-map (λ k. k ≡ x a → ⊥) x l d.0, distinct_images x l d.1)
 
 -- ---- the numbers of a range
-
-pub distinct_counting : (a n : ℕ) → Distinct (range_with_len a n)
-distinct_counting a zero = tt
-distinct_counting a (suc n) =
-    (all_from_in (range_with_len (a + 1) n) (λ b k e. let r = counting_in (a + 1) n b k in omega (arith, r)), distinct_counting (a + 1) n)
 
 pub place_below : (d j : ℕ) → In j (range_with_len 0 d) → j < d
 place_below d j k = omega (arith, counting_in 0 d j k)

@@ -17,7 +17,8 @@ use Rattle.scheme.specs.Fitting.{passes, fits, polynomials}
 use Rattle.scheme.proofs.Asking.{all_from_codes}
 use Rattle.scheme.proofs.Enumerated.{CodesOf, kept_none, polynomials_are}
 use Rattle.runs.specs.Cards.{Card, Cards, lying, card_refusal}
-use Rattle.runs.specs.Worked.{five, card, all_five, first_four, two_altered, nines, zeros}
+use Rattle.scheme.specs.Worked.{five}
+use Rattle.runs.specs.Worked.{card, all_five, first_four, two_altered, nines, zeros}
 use Rattle.runs.specs.Opening.{pair_at, tag_point, value_point, opened, FirstThree}
 use Rattle.runs.proofs.Openings.{fitting_settles_lem}
 use Rattle.runs.proofs.Lists.{every_in}

@@ -2,25 +2,8 @@
 -- and 2, and tag coefficients 5 and 3 deal the cards (10, 788), (25, 1586), (64, 2456), (139, 3183) and (11, 3803).
 -- Assumes nothing.
 use Rattle.std.specs.Prelude.{ℕ, List, [], ◌∷◌, Some, None}
-use Rattle.std.proofs.Common.{lit≤}
-use Rattle.scheme.specs.declared.types.Figures.{Figures}
-use Rattle.scheme.specs.declared.types.Pair.{Pair}
+use Rattle.scheme.specs.Worked.{pair}
 use Rattle.runs.specs.Cards.{Card, Cards}
-
-abbrev pub five : Figures
-five = record {
-  n = 5;
-  k = 4;
-  t = 1;
-  d = 1;
-  participants = (lit≤ tt, lit≤ tt);
-  threshold = (lit≤ tt, lit≤ tt);
-  altered = lit≤ tt;
-  symbols = (lit≤ tt, lit≤ tt);
-}
-
-abbrev pub pair : ℕ → ℕ → Pair
-pair value tag = record { value = value; tag = tag }
 
 abbrev pub card : ℕ → ℕ → Card
 card value tag = pair value tag ∷ []

@@ -51,7 +51,7 @@ counting_in a zero i k = absurd k
 counting_in a (suc n) i (inl e) = (omega arith, omega arith)
 counting_in a (suc n) i (inr k) = let r = counting_in (a + 1) n i k in (omega arith, omega arith)
 
-distinct_counting : (a n : ℕ) → Distinct (range_with_len a n)
+pub distinct_counting : (a n : ℕ) → Distinct (range_with_len a n)
 distinct_counting a zero = tt
 distinct_counting a (suc n) =
     (all_from_in (range_with_len (a + 1) n) (λ b k e. let r = counting_in (a + 1) n b k in omega (arith, r)), distinct_counting (a + 1) n)

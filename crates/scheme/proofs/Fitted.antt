@@ -3,6 +3,7 @@
 use Rattle.std.proofs.Common.{◌≡◌, ℕ, zero, suc, ◌+◌, ◌-◌, ◌*◌, ◌<◌, ◌≤◌, Bool, true, false, cond, not, eqb, List, [], ◌∷◌, ◌++◌, map, length, get_or, take, filter, sym, refl, ap, ◌∙◌, subst, ap₂, add-one, arith}
 use Rattle.std.specs.List.{AllByRecursion, list_all}
 use Rattle.std.proofs.lemmas.List.{get_or-map, length-map, take_all, take_more}
+use Rattle.std.proofs.lemmas.List.Sums.{length-filter, count_by-le-length}
 use Rattle.std.proofs.ByRecursion.{All-get_or}
 use Rattle.std.proofs.lemmas.Bool.{eq-eqb, ne_eqb, eqb-false, leb-true, le-leb, and_parts, and_from, not-true}
 use Rattle.algebra.specs.Field.{Field}
@@ -29,14 +30,6 @@ kept_from_every test (a ∷ l) e =
     let h = and_parts (test a) (list_all test l) e in
     ap (λ b. length (cond b (a ∷ filter test l) (filter test l))) h.0 ∙ ap suc (kept_from_every test l h.1)
 
-kept_le : {A : Type 0} (test : A → Bool) (l : List A) → length (filter test l) ≤ length l
-kept_le test [] = omega arith
-kept_le test (a ∷ l) = by (test a) (kept_le test l)
-  where
-    by : (b : Bool) → length (filter test l) ≤ length l → length (cond b (a ∷ filter test l) (filter test l)) ≤ suc (length l)
-    by true h = omega arith
-    by false h = omega arith
-
 every_from_kept : {A : Type 0} (test : A → Bool) (l : List A) → length l ≤ length (filter test l) → list_all test l ≡ true
 every_from_kept test [] h = refl
 every_from_kept test (a ∷ l) h = by (test a) refl (λ k. every_from_kept test l k) h
@@ -44,7 +37,7 @@ every_from_kept test (a ∷ l) h = by (test a) refl (λ k. every_from_kept test 
     by : (b : Bool) → test a ≡ b → (length l ≤ length (filter test l) → list_all test l ≡ true)
         → suc (length l) ≤ length (cond b (a ∷ filter test l) (filter test l)) → list_all test (a ∷ l) ≡ true
     by true e ih k = and_from (test a) (list_all test l) e (ih (omega arith))
-    by false e ih k = absurd (omega (arith, kept_le test l))
+    by false e ih k = absurd (omega (arith, length-filter test l, count_by-le-length test l))
 
 module _ {I : Type 0} {Q : I → Type 0} (dec : (i : I) → Dec (Q i)) where
   none_missing : (l : List I) → AllByRecursion Q l → missing dec l ≡ 0

@@ -1,30 +1,22 @@
 -- Held polynomials, ratios and states fit in memory, since an element of a field is small.
 -- Assumes nothing.
-use Rattle.std.proofs.Common.{ℕ, ◌+◌, ◌-◌, ◌*◌, ◌%◌, ◌^◌, ◌<◌, ◌≤◌, max, arith}
-use native.Mathlib.Nat.{mod-le, max-le}
+use Rattle.std.proofs.Common.{ℕ, ◌+◌, ◌*◌, ◌^◌, ◌<◌, ◌≤◌, max, arith}
+use native.Mathlib.Nat.{max-le}
 use prog.Memory.{size, align, up}
 use denote.RattleType.{RattleType}
 use denote.Param.{layout}
 use Rattle.fields.specs.Laws.{Codes, Laws}
 use Rattle.fields.specs.Room.{Small}
+use Rattle.fields.specs.DoubledFieldLemmas.{up_le, pair_le}
 use Rattle.scheme.specs.contracts.held.Polynomial.{the_row as polynomial-row}
 use Rattle.scheme.specs.contracts.held.Ratio.{the_row as ratio-row}
 use Rattle.scheme.specs.contracts.held.State.{the_row as state-row}
-
-up_le : (k e m : ℕ) → k ≤ m → up k e ≤ e + m
-up_le k e m h = omega (arith, mod-le (k - e % k) k)
 
 polynomial_le : (a s : ℕ) → a ≤ 16 → up (max a 8) (up 8 (up a 0 + 64 * s) + 8) ≤ 64 * s + 56
 polynomial_le a s h =
     let x = up a 0 + 64 * s in
     let y = up 8 x + 8 in
     omega (arith, up_le a 0 16 h, up_le 8 x 16 (omega arith), up_le (max a 8) y 16 (max-le h (omega arith)))
-
-pair_le : (b s : ℕ) → b ≤ 16 → up (max b (max b 1)) (up b (up b 0 + s) + s) ≤ 2 * s + 48
-pair_le b s h =
-    let x = up b 0 + s in
-    let y = up b x + s in
-    omega (arith, up_le b 0 16 h, up_le b x 16 h, up_le (max b (max b 1)) y 16 (max-le h (max-le h (omega arith))))
 
 pub record Roomy (E : RattleType) : Type 0 where
   pub array : 64 * size (layout E) < 2 ^ 63

@@ -2,6 +2,8 @@
 -- Assumes nothing.
 use Rattle.std.specs.Prelude.{ℕ, ◌+◌, ◌-◌, ◌*◌, Bool, not, ◌&&◌, ◌||◌, List, [], ◌∷◌, map, length, take, drop, Some, None, Ok, Err, Option, Result, ◌==◌, nat_le, slice_index}
 use Rattle.std.specs.List.{range_with_len, flat_map, list_all}
+use Rattle.std.specs.Option.{option_map}
+use Rattle.std.specs.Result.{result_map_both, result_err}
 use Rattle.fields.specs.Laws.{Codes}
 use Rattle.fields.specs.Doubled.{doubled, join}
 use Rattle.scheme.specs.Questions.{first_no, all_codes}
@@ -84,10 +86,8 @@ deal_number TopCoefficient = 19
 
 -- the count, or the number of the refusal, that an answer tells
 abbrev pub deal_told : Result ℕ DealFault → Result ℕ ℕ
-deal_told (Ok count) = Ok count
-deal_told (Err e) = Err (deal_number e)
+deal_told = result_map_both (λ count. count) deal_number
 
 -- the number of the refusal, if any, that an answer tells
 abbrev pub refusal_told : {A : Type 0} → Result A DealFault → Option ℕ
-refusal_told (Ok _) = None
-refusal_told (Err e) = Some (deal_number e)
+refusal_told answer = option_map deal_number (result_err answer)

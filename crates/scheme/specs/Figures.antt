@@ -1,7 +1,8 @@
 -- The figures of a scheme: n participants, the threshold k, the number t of altered shares to be borne, and the key's length d
 -- in symbols.
 -- Assumes nothing.
-use Rattle.std.specs.Prelude.{ℕ, ◌+◌, ◌*◌, Bool, ◌&&◌, List, [], ◌∷◌, Ok, Err, Result, nat_le}
+use Rattle.std.specs.Prelude.{ℕ, ◌+◌, ◌*◌, Bool, ◌&&◌, List, [], ◌∷◌, Result, nat_le}
+use Rattle.std.specs.Result.{result_map_both}
 use Rattle.scheme.specs.Questions.{first_no, unless}
 use Rattle.scheme.specs.declared.types.Figures.{Figures}
 use Rattle.scheme.specs.declared.types.FiguresFault.{FiguresFault}
@@ -21,8 +22,7 @@ figures_number KeyLength = 14
 
 -- the four numbers, or the number of the refusal, that an answer tells
 abbrev pub figures_told : Result Figures FiguresFault → Result (ℕ × ℕ × ℕ × ℕ) ℕ
-figures_told (Ok f) = Ok (f.n, f.k, f.t, f.d)
-figures_told (Err e) = Err (figures_number e)
+figures_told = result_map_both (λ f. (f.n, f.k, f.t, f.d)) figures_number
 
 -- what the call `figures` tells
 abbrev pub figures_answer : ℕ → ℕ → ℕ → ℕ → Result (ℕ × ℕ × ℕ × ℕ) ℕ

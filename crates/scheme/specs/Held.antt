@@ -1,6 +1,8 @@
 -- What the structs of polynomials hold, as the algebra has it. A polynomial is the list of its coefficients.
 -- Assumes nothing.
-use Rattle.std.specs.Prelude.{ℕ, ◌<◌, List, map, length, Some, None, Ok, Err, Option, Result}
+use Rattle.std.specs.Prelude.{ℕ, ◌<◌, List, map, length, Some, Option, Result}
+use Rattle.std.specs.Option.{option_map}
+use Rattle.std.specs.Result.{result_map_both, result_err}
 use Rattle.algebra.specs.Field.{Field}
 use Rattle.algebra.specs.Decoder as algebra
 use Rattle.scheme.specs.declared.held.Polynomial.{Polynomial}
@@ -25,20 +27,16 @@ module _ {E : Type 0} where
   polynomial_told code p = map code p
 
   abbrev pub option_told : (E → ℕ) → Option (Polynomial E) → Option (List ℕ)
-  option_told code None = None
-  option_told code (Some p) = Some (polynomial_told code p)
+  option_told code = option_map (polynomial_told code)
 
   abbrev pub decode_told : (E → ℕ) → Result (Option (Polynomial E)) PointsFault → Result (Option (List ℕ)) PointsFault
-  decode_told code (Ok o) = Ok (option_told code o)
-  decode_told code (Err e) = Err e
+  decode_told code = result_map_both (option_told code) (λ e. e)
 
   abbrev pub interpolate_told : (E → ℕ) → Result (Polynomial E) PointsFault → Result (Option (List ℕ)) PointsFault
-  interpolate_told code (Ok p) = Ok (Some (polynomial_told code p))
-  interpolate_told code (Err e) = Err e
+  interpolate_told code = result_map_both (λ p. Some (polynomial_told code p)) (λ e. e)
 
   abbrev pub value_told : (E → ℕ) → Result E PointsFault → Result (Option ℕ) PointsFault
-  value_told code (Ok a) = Ok (Some (code a))
-  value_told code (Err e) = Err e
+  value_told code = result_map_both (λ a. Some (code a)) (λ e. e)
 
   abbrev pub ratio : (X : Field E) → Ratio E → algebra.Ratio X
   ratio X r = record { top = r.top; bottom = r.bottom }
@@ -52,5 +50,4 @@ module _ {E : Type 0} where
 
 -- the refusal that an answer tells, if any
 abbrev pub refusal_of : Result (Unit {0}) PointsFault → Option PointsFault
-refusal_of (Ok _) = None
-refusal_of (Err e) = Some e
+refusal_of = result_err

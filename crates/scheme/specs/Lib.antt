@@ -4,3 +4,4 @@ pub mod Polynomial
 pub mod Dealing
 pub mod Held
 pub mod Fitting
+pub mod Worked
