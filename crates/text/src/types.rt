@@ -141,14 +141,14 @@ pub struct Sheet {
 }
 
 // Why a dealing sheet is refused.
-#[derive(Clone, Copy, PartialEq, Eq, Debug)]
+#[derive(Clone, Copy, PartialEq, Eq, Debug, Error)]
 pub enum SheetFault {
-    // the text has more than 16,384 bytes
+    #[error("the text has more than 16,384 bytes")]
     TooLong,
-    // a line is refused, or something follows the last
+    #[error(transparent)]
     Line(TextFault),
-    // the figures do not pass
+    #[error(transparent)]
     Figures(FiguresFault),
-    // the lists or their numbers are not those of a dealing
+    #[error(transparent)]
     Deal(DealFault),
 }
