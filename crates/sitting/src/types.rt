@@ -20,7 +20,8 @@ pub(crate) struct Sitting<F> {
     pub(crate) field: PhantomData<F>,
 }
 
-// A sitting over the field F that takes cards.
+// A sitting over the field F that takes cards. It and the next are two types, so that a program that presents to a sealed
+// sitting does not compile.
 #[derive(Drop)]
 pub struct Gathering<F> {
     pub(crate) sitting: Sitting<F>,

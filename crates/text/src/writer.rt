@@ -62,6 +62,7 @@ fn text_of(field: FieldName, figures: &Figures, number: u64, card: &[Pair]) -> C
 }
 
 // Writes the text of a card to the front of the buffer, and answers its length; refused, it leaves the buffer as it was.
+// (Its parameters are promised as they are.)
 pub fn write_card(
     field: FieldName,
     figures: &Figures,
