@@ -23,8 +23,8 @@ impl Model for CardText {
 }
 
 impl Half {
-    // this number of a pair (a closure in its place was tried: the check says that an error of
-    // its own keeps the answer from counting)
+    // this number of a pair (a closure in its place was tried: the check says that an error of its own keeps the answer from
+    // counting)
     fn of(self, pair: &Pair) -> u64
         ensures { result ≡ picked self pair.now }
     {

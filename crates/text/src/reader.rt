@@ -107,7 +107,8 @@ impl<'a> CardReader<'a> {
         settle(&self.lines()?)
     }
 
-    // The list of values, as it stands in the text, where all lines pass. (It and the next are two promised parts, each one expression.)
+    // The list of values, as it stands in the text, where all lines pass. (It and the next are two promised parts, each one
+    // expression.)
     pub fn values(&self) -> Option<&'a [u8]>
         ensures { option_map (λ x. x.now) result ≡ part_of 6 (lines_of 1 card_keys self.now.text.now) }
     {
