@@ -1,6 +1,8 @@
 -- The refusals of the calls on cards, by their numbers.
 -- Assumes nothing.
-use Rattle.std.specs.Prelude.{ℕ, Some, None, Ok, Err, Option, Result}
+use Rattle.std.specs.Prelude.{ℕ, Option, Result}
+use Rattle.std.specs.Option.{option_map}
+use Rattle.std.specs.Result.{result_err, result_map_both}
 use Rattle.sitting.specs.declared.types.CardFault.{CardFault}
 use Rattle.sitting.specs.declared.types.CardFault.TheVariants.{Number, Pairs, Code}
 use Rattle.sitting.specs.declared.types.PresentFault.{PresentFault}
@@ -23,14 +25,11 @@ withdraw_number withdraw.NotLying = 45
 
 -- the number of the refusal that an answer tells, if any
 abbrev pub card_told : Result (Unit {0}) CardFault → Option ℕ
-card_told (Ok _) = None
-card_told (Err e) = Some (card_number e)
+card_told answer = option_map card_number (result_err answer)
 
 -- how many cards lie, or the number of the refusal, that an answer tells
 abbrev pub present_told : Result ℕ PresentFault → Result ℕ ℕ
-present_told (Ok count) = Ok count
-present_told (Err e) = Err (present_number e)
+present_told = result_map_both (λ count. count) present_number
 
 abbrev pub withdraw_told : Result ℕ WithdrawFault → Result ℕ ℕ
-withdraw_told (Ok count) = Ok count
-withdraw_told (Err e) = Err (withdraw_number e)
+withdraw_told = result_map_both (λ count. count) withdraw_number

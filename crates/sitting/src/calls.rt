@@ -69,7 +69,7 @@ impl<F: Doublable> Gathering<F> {
         let sitting = &mut self.sitting;
         ask_card::<F>(&sitting.figures, i, card)?;
         let number = i as usize;
-        if sitting.table.lying[number - 1] {
+        if sitting.table.lies(number) {
             return Err(PresentFault::AlreadyLies);
         }
         sitting.table.lay(number, card);
@@ -86,7 +86,7 @@ impl<F: Doublable> Gathering<F> {
             return Err(WithdrawFault::Number);
         }
         let number = i as usize;
-        if !sitting.table.lying[number - 1] {
+        if !sitting.table.lies(number) {
             return Err(WithdrawFault::NotLying);
         }
         sitting.table.clear(number);

@@ -16,6 +16,7 @@ impl Drop for KeyHolder<'_> {
 }
 
 // Whether a key that was opened is the expected one. Whatever the answer, the buffer of the opened key is blank afterwards.
+// It has two exits on purpose: the holder blanks the key on each.
 pub fn confirm_key(opened: &mut [u64], expected: &[u64]) -> bool
     ensures answer { Decides result (opened.old ≡ expected.now) }
     ensures blank { opened.new ≡ replicate (length opened.old) 0 }

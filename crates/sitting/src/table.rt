@@ -1,5 +1,5 @@
 // Laying a card on the table and taking one up.
-ghost use Rattle.std.specs.Prelude.{◌≡◌, ◌≤◌, length, take, count_by};
+ghost use Rattle.std.specs.Prelude.{◌≡◌, ◌≤◌, ◌-◌, false, length, take, count_by, slice_index_or};
 ghost use Rattle.sitting.specs.Table.{blank_table, cleared, laid};
 
 use crate::types::Table;
@@ -16,6 +16,14 @@ impl Table {
             places: [BLANK; 2048],
             lying: [false; 32],
         }
+    }
+
+    // Whether a card of participant i lies.
+    pub(crate) fn lies(&self, i: usize) -> bool
+        requires { (1 ≤ i) × (i ≤ 32) }
+        ensures { result ≡ slice_index_or self.now.lying (i - 1) false }
+    {
+        self.lying[i - 1]
     }
 
     // Lays a card of participant i.

@@ -1,6 +1,6 @@
 -- Loops that copy the items of a list, each to its place.
 -- Assumes nothing.
-use Rattle.std.proofs.Common.{◌≡◌, ℕ, ◌+◌, ◌<◌, Bool, true, false, eqb, List, [], ◌∷◌, ◌++◌, length, get_or, take, set, Some, None, Option, sym, ap, ◌∙◌, subst, arith}
+use Rattle.std.proofs.Common.{◌≡◌, ℕ, ◌+◌, ◌<◌, Bool, true, false, eqb, List, [], ◌∷◌, ◌++◌, length, get_or, take, set, Some, None, sym, ap, ◌∙◌, subst, arith}
 use Rattle.std.specs.Fn.{CalledAt}
 use Rattle.std.specs.Iterator.Adapters.{enumerate_source, enumerate_count, enumerate_steps}
 use Rattle.std.specs.List.{enumerate_from}
@@ -45,6 +45,3 @@ pub piece_number : (text : List ℕ) (i : ℕ) (piece : List ℕ) → is_list te
 piece_number text i piece e h is =
     cond-true (is_number piece) (Some (digits_value piece)) None
     (subst (λ p. is_number p ≡ true) (sym is) (AllPass-from_list_all is_number (pieces text) e i piece h))
-
-pub some_same : {A : Type 0} (a b : A) → ◌≡◌ {A = Option A} (Some a) (Some b) → a ≡ b
-some_same a b e = cc

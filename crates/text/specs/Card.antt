@@ -2,6 +2,8 @@
 -- Assumes nothing.
 use Rattle.std.specs.Prelude.{ℕ, ◌*◌, Bool, cond, ◌&&◌, List, [], ◌∷◌, ◌++◌, map, length, drop, is_ok, Some, None, Ok, Err, decimal, Option, Result, ◌==◌, nat_le, slice_index_or}
 use Rattle.std.specs.List.{zip}
+use Rattle.std.specs.Option.{option_map}
+use Rattle.std.specs.Result.{result_ok}
 use Rattle.std.specs.Str.{bytes_eq}
 use Rattle.fields.specs.Laws.{Codes}
 use Rattle.fields.specs.Byte.{byte}
@@ -84,8 +86,7 @@ read_card text = cond (nat_le (length text) 1024) (settled (lines 1 card_keys te
 
 -- the content of a line, counted from 0, where all eight lines pass
 abbrev pub part_of : ℕ → Result (List (List ℕ) × List ℕ) (ℕ × ℕ) → Option (List ℕ)
-part_of i (Ok l) = Some (slice_index_or l.0 i [])
-part_of i (Err e) = None
+part_of i lines = option_map (λ l. slice_index_or l.0 i []) (result_ok lines)
 
 -- the contents of the eight lines of a card
 abbrev pub card_contents : FieldName → Figures → ℕ → Pairs → List (List ℕ)

@@ -1,6 +1,8 @@
 -- The refusals of texts: number and line; and those of the writer.
 -- Assumes nothing.
-use Rattle.std.specs.Prelude.{ℕ, Some, None, Ok, Err, Option, Result}
+use Rattle.std.specs.Prelude.{ℕ, Option, Result}
+use Rattle.std.specs.Option.{option_map}
+use Rattle.std.specs.Result.{result_err}
 use Rattle.sitting.specs.Faults.{card_number}
 use Rattle.text.specs.declared.types.TextFault.{TextFault}
 use Rattle.text.specs.declared.types.TextFault.TheVariants.{TooLong, Key, Content, LineEnd, Follows, Figures, Number, Count, Code}
@@ -21,8 +23,7 @@ fault_told (Code line) = (59, line)
 
 -- the number and line of the refusal that an answer tells, if any
 abbrev pub refusal_told : Result (Unit {0}) TextFault → Option (ℕ × ℕ)
-refusal_told (Ok _) = None
-refusal_told (Err e) = Some (fault_told e)
+refusal_told answer = option_map fault_told (result_err answer)
 
 abbrev pub write_number : WriteFault → ℕ
 write_number (Card e) = card_number e

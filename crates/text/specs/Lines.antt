@@ -4,6 +4,7 @@ use Rattle.std.specs.Prelude.{ℕ, suc, Bool, not, ◌||◌, List, [], ◌∷◌
 use Rattle.scheme.specs.Questions.{first_no, unless}
 use Rattle.std.specs.Char.{is_ascii_digit}
 use Rattle.std.specs.List.{prefix_len}
+use Rattle.std.specs.Result.{result_map_both}
 use Rattle.std.specs.Str.{bytes_eq}
 use Rattle.text.specs.Numbers.{is_number, is_list}
 use Rattle.text.specs.declared.types.FieldName.{FieldName}
@@ -84,8 +85,7 @@ line at key text =
     (take end behind, drop 1 (drop end behind))
 
 abbrev pub with_content : List ℕ → Result (List (List ℕ) × List ℕ) (ℕ × ℕ) → Result (List (List ℕ) × List ℕ) (ℕ × ℕ)
-with_content content (Ok others) = Ok (content ∷ others.0, others.1)
-with_content content (Err e) = Err e
+with_content content = result_map_both (λ others. (content ∷ others.0, others.1)) (λ e. e)
 
 abbrev pub and_then : Result (List ℕ × List ℕ) (ℕ × ℕ) → (List ℕ → Result (List (List ℕ) × List ℕ) (ℕ × ℕ)) → Result (List (List ℕ) × List ℕ) (ℕ × ℕ)
 and_then (Ok l) others = with_content l.0 (others l.1)

@@ -1,6 +1,7 @@
 -- A dealing sheet: eight lines that tell what `deal` takes.
 -- Assumes nothing.
 use Rattle.std.specs.Prelude.{ℕ, ◌+◌, ◌-◌, ◌*◌, Bool, cond, ◌&&◌, List, [], ◌∷◌, length, take, Ok, Err, Result, ◌==◌, nat_le, slice_index_or}
+use Rattle.std.specs.Result.{result_map_both}
 use Rattle.scheme.specs.Questions.{first_no, unless}
 use Rattle.scheme.specs.Dealing.{deal_number}
 use Rattle.scheme.specs.Figures.{figures_answer, figures_number}
@@ -70,5 +71,4 @@ sheet_shown s = record {
 }
 
 abbrev pub sheet_told : Result Sheet SheetFault → Result DealingSheet (ℕ × ℕ)
-sheet_told (Ok s) = Ok (sheet_shown s)
-sheet_told (Err e) = Err (sheet_fault_told e)
+sheet_told = result_map_both sheet_shown sheet_fault_told

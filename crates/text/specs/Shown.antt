@@ -1,6 +1,7 @@
 -- What the answers of reader and writer tell.
 -- Assumes nothing.
-use Rattle.std.specs.Prelude.{ℕ, take, Ok, Err, Result}
+use Rattle.std.specs.Prelude.{ℕ, take, Result}
+use Rattle.std.specs.Result.{result_map_both}
 use Rattle.text.specs.Card.{Reading}
 use Rattle.text.specs.Faults.{fault_told, write_number}
 use Rattle.text.specs.declared.types.CardRead.{CardRead}
@@ -17,9 +18,7 @@ shown c = record {
 }
 
 abbrev pub read_told : Result CardRead TextFault → Result Reading (ℕ × ℕ)
-read_told (Ok c) = Ok (shown c)
-read_told (Err e) = Err (fault_told e)
+read_told = result_map_both shown fault_told
 
 abbrev pub write_told : Result ℕ WriteFault → Result ℕ ℕ
-write_told (Ok length) = Ok length
-write_told (Err e) = Err (write_number e)
+write_told = result_map_both (λ length. length) write_number

@@ -1,7 +1,8 @@
 // What stands behind the key of a line.
-ghost use Rattle.std.specs.Prelude.{◌≡◌, ℕ, List, cond, Some, None, decimal, [], ◌∷◌};
+ghost use Rattle.std.specs.Prelude.{◌≡◌, ℕ, List, cond, Some, None, decimal};
 ghost use Rattle.std.specs.Option.{option_map};
 ghost use Rattle.text.specs.Lines.{Kind, Name, Number, Numbers, OptionalNumbers, field_name, is_content};
+ghost use Rattle.text.specs.Parts.{list_text, optional_text};
 
 use crate::numbers::{NumberList, number};
 use crate::types::FieldName;
@@ -46,7 +47,7 @@ impl<'a> Content<'a> for u64 {
 impl<'a> Content<'a> for NumberList<'a> {
     ghost kind = { Numbers };
 
-    ghost text = { λ list. list.text.now };
+    ghost text = { list_text };
 
     fn read(run: &'a [u8]) -> Option<NumberList<'a>> {
         NumberList::new(run)
@@ -57,7 +58,7 @@ impl<'a> Content<'a> for NumberList<'a> {
 impl<'a> Content<'a> for Option<NumberList<'a>> {
     ghost kind = { OptionalNumbers };
 
-    ghost text = { elim [ None ↦ [] | Some list ↦ list.text.now ] };
+    ghost text = { optional_text };
 
     fn read(run: &'a [u8]) -> Option<Option<NumberList<'a>>> {
         if run.is_empty() {

@@ -40,7 +40,8 @@ impl Key {
         }
     }
 
-    // whether the byte can stand behind the key
+    // whether the byte can stand behind the key (as a method of the trait `Content` it was tried: in an impl with a lifetime the
+    // check cannot give it the clauses of its trait)
     fn has(self, byte: u8) -> bool
         ensures { result ≡ in_content (kind_of self) byte }
     {
@@ -83,7 +84,8 @@ pub(crate) fn take_line<'a, C: Content<'a>>(
     Ok(Line { content, rest })
 }
 
-// Takes the five lines that tell of a scheme, and three more of these keys, from the front of the text.
+// Takes the five lines that tell of a scheme, and three more of these keys, from the front of the text. (Each line begins where
+// the one before it ended; a cursor would only hide that.)
 pub(crate) fn take_lines<'a, S: Content<'a>, V: Content<'a>>(
     sixth: Key,
     seventh: Key,

@@ -23,10 +23,7 @@ pub(crate) fn number(text: &[u8]) -> Option<u64>
     if !is_number(text) {
         return None;
     }
-    let Ok(digits) = str::from_utf8(text) else {
-        return None;
-    };
-    digits.parse().ok()
+    str::from_utf8(text).ok()?.parse().ok()
 }
 
 // Whether the text is a list: numbers that are separated by single commas.
@@ -62,8 +59,8 @@ impl<'a> NumberList<'a> {
         self.text.split(|b| *b == b',').count()
     }
 
-    // Copies its numbers into a buffer with a place for each. (It writes by index: of what is written through `iter_mut` a proof
-    // knows only how many items there are.)
+    // Copies its numbers into a buffer with a place for each. (It writes by index: of what is written through
+    // `iter_mut().zip(..)` a proof knows only how many items there are.)
     fn copy_into(&self, numbers: &mut [u64])
         requires { length (numbers_in self.now.text.now) ≡ length numbers.old }
         ensures { numbers.new ≡ numbers_in self.now.text.now }

@@ -14,7 +14,8 @@ use crate::types::{CardLines, CardRead, CardReader, FieldName, Key, TextFault};
 use fields::{Byte, Doublable, Doubled, P251};
 use scheme::{Figures, Pair, are_codes, figures};
 
-// Asks whether the values are codes of the field, and the tags codes of the doubled field.
+// Asks whether the values are codes of the field, and the tags codes of the doubled field. (The field's own code reader decides,
+// so the field is a type.)
 fn ask_codes<F: Doublable>(values: &[u64], tags: &[u64]) -> Result<(), TextFault>
     ensures { refusal_told result ≡ first_no ((all_codes F.Field.codes.size values.now, (59, 7)) ∷ (all_codes (F.Field.codes.size * F.Field.codes.size) tags.now, (59, 8)) ∷ []) }
 {
@@ -37,13 +38,13 @@ fn ask_named(field: FieldName, values: &[u64], tags: &[u64]) -> Result<(), TextF
     }
 }
 
-// Values and tags, pair by pair, at the front of 64 pairs. (It writes by index: of what is written through `iter_mut` a proof
-// knows only how many items there are.)
+// Values and tags, pair by pair, at the front of 64 pairs. (It writes by index: of what is written through `iter_mut().zip(..)`
+// a proof knows only how many items there are.)
 fn pair_up(values: &[u64], tags: &[u64]) -> [Pair; 64]
     requires { (length values.now ≡ length tags.now) × (length values.now ≤ 64) }
     ensures { take (length values.now) result ≡ paired values.now tags.now }
 {
-    let mut pairs = [Pair { value: 0, tag: 0 }; 64];
+    let mut pairs = [Pair::default(); 64];
     for (j, (value, tag)) in values.iter().zip(tags).enumerate() {
         pairs[j] = Pair {
             value: *value,
@@ -60,9 +61,7 @@ fn settle(lines: &CardLines) -> Result<CardRead, TextFault>
     if !lines.rest.is_empty() {
         return Err(TextFault::Follows);
     }
-    let Ok(figures) = figures(lines.n, lines.k, lines.t, lines.d) else {
-        return Err(TextFault::Figures);
-    };
+    let figures = figures(lines.n, lines.k, lines.t, lines.d).map_err(|_| TextFault::Figures)?;
     if !figures.has_participant(lines.sixth) {
         return Err(TextFault::Number);
     }
@@ -108,7 +107,8 @@ impl<'a> CardReader<'a> {
         settle(&self.lines()?)
     }
 
-    // The list of values, as it stands in the text, where all lines pass.
+    // The list of values, as it stands in the text, where all lines pass. (It and the next are two promised parts, each one
+    // expression.)
     pub fn values(&self) -> Option<&'a [u8]>
         ensures { option_map (λ x. x.now) result ≡ part_of 6 (lines_of 1 card_keys self.now.text.now) }
     {

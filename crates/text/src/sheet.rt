@@ -44,7 +44,7 @@ fn count_optional(list: Option<NumberList>) -> usize
     list.map_or(0, |list| list.count())
 }
 
-// Its numbers, at the front of N.
+// Its numbers, at the front of N. (A `match`, since a closure under `map_or` cannot know what `to_array` asks.)
 fn optional_to_array<const N: usize>(list: Option<NumberList>) -> [u64; N]
     requires { length (optional_numbers list) ≤ N }
     ensures { take (length (optional_numbers list.entry)) result ≡ optional_numbers list.entry }
@@ -140,6 +140,7 @@ impl Sheet {
     }
 
     // Deals what the sheet tells into a buffer of pairs, as the call `deal` does over the field that is named.
+    // (`deal` takes the field as a type, so a match names each.)
     pub fn deal(&self, cards: &mut [Pair]) -> Result<usize, DealFault>
         ensures { (deal_told result, cards.new) ≡ dealing (codes_of self.now.field) (u_of self.now.field) (v_of self.now.field) self.now.figures (sheet_shown self.now).key (sheet_shown self.now).values (sheet_shown self.now).tags cards.old }
     {

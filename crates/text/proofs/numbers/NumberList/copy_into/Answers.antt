@@ -2,10 +2,11 @@ use Rattle.std.proofs.Common.{◌≡◌, ◌<◌, [], ◌∷◌, ◌++◌, lengt
 use Rattle.std.specs.Option.{IsSome}
 use Rattle.std.proofs.lemmas.Iterator.Consumers.{YieldsList-turn, YieldsList-end}
 use Rattle.std.proofs.lemmas.List.{take_all, length-map, length_push, get_or-map}
+use Rattle.std.proofs.lemmas.Option.{same_Some}
 use Rattle.std.proofs.lemmas.List.FromFn.{length-enumerate_from}
 use borrow.Author.Tests.{tests}
 use Rattle.text.specs.Numbers.{pieces, numbers_in, digits_value}
-use Rattle.text.proofs.Pieces.{pieces_road, placed, piece_number, some_same, copied_more}
+use Rattle.text.proofs.Pieces.{pieces_road, placed, piece_number, copied_more}
 use Rattle.text.proofs.numbers.NumberList.copy_into.Goals as goal
 
 pub unwrap-requires : goal.unwrap-requires
@@ -36,7 +37,7 @@ loop-i-preserved c =
     let text = c.args.self.now.text.now in
     let h = here c in
     let more = c.loop-i.yielded ++ ((c.in-Some.i, c.in-Some.piece) ∷ []) in
-    let n-is = some_same _ _ (sym c.unwrap.ensures ∙ c.number.ensures ∙ piece_number text c.in-Some.i c.in-Some.piece.now c.args.self.now.list h.0 h.2) in
+    let n-is = same_Some _ _ (sym c.unwrap.ensures ∙ c.number.ensures ∙ piece_number text c.in-Some.i c.in-Some.piece.now c.args.self.now.list h.0 h.2) in
     let n = c.unwrap.result in
     let next : n ≡ get_or (numbers_in text) c.in-Some.i n =
     n-is ∙ ap digits_value h.2 ∙ sym (get_or-map digits_value (pieces text) c.in-Some.i c.in-Some.piece.now n h.0) in
