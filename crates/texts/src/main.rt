@@ -124,8 +124,8 @@ fn parts(rt: &HostRuntime) -> io::Result<()> {
         let reader = CardReader::new(text);
         println!(rt;
             "{name}: values={} tags={}",
-            shown(reader.values()),
-            shown(reader.tags())
+            reader.values().map_or("none", text_of),
+            reader.tags().map_or("none", text_of)
         )?;
     }
     if let Ok(card) = CardReader::new(WHOLE).read() {
@@ -134,15 +134,15 @@ fn parts(rt: &HostRuntime) -> io::Result<()> {
     Ok(())
 }
 
-// A part of a text for printing.
-fn shown<'a>(part: Option<&'a [u8]>) -> &'a str {
-    part.map_or("none", |bytes| from_utf8(bytes).unwrap_or("no text"))
+// The bytes as text, for printing.
+fn text_of(bytes: &[u8]) -> &str {
+    from_utf8(bytes).unwrap_or("no text")
 }
 
 // Shows all that a text tells.
 fn show_card(rt: &HostRuntime, card: &CardRead) -> io::Result<()> {
     let (number, pairs) = (card.number(), card.card());
-    let field = shown(Some(card.field().word()));
+    let field = text_of(card.field().word());
     let f = card.figures();
     let (n, k, t, d) = (f.n(), f.k(), f.t(), f.d());
     println!(rt; "a whole text: field={field} figures={n},{k},{t},{d} card={number} {pairs:?}")
@@ -206,7 +206,7 @@ fn worked_example(rt: &HostRuntime) -> io::Result<()> {
 fn print_text(rt: &HostRuntime, f: &Figures, number: u64, card: &[Pair]) -> io::Result<()> {
     let mut buffer = [WAS; 1024];
     match write_card(FieldName::P251, f, number, card, &mut buffer) {
-        Ok(length) => print!(rt; "{}", shown(Some(&buffer[..length]))),
+        Ok(length) => print!(rt; "{}", text_of(&buffer[..length])),
         Err(fault) => println!(rt; "refused={}", fault.number()),
     }
 }
