@@ -1,6 +1,8 @@
 // What the calls take and answer.
 ghost use Rattle.std.specs.Prelude.{◌+◌, ◌*◌, ◌≤◌};
 
+use thiserror::Error;
+
 // Figures that passed their questions. The four facts stand in the type, so that no value can lose them; only the call
 // `figures` makes one.
 #[derive(Clone, Copy, PartialEq, Eq, Debug)]
@@ -16,15 +18,15 @@ pub struct Figures {
 }
 
 // Which question the call `figures` answered with no.
-#[derive(Clone, Copy, PartialEq, Eq, Debug)]
+#[derive(Clone, Copy, PartialEq, Eq, Debug, Error)]
 pub enum FiguresFault {
-    // n is not from 1 to 32
+    #[error("n is not from 1 to 32")]
     Participants,
-    // k is not from 1 to n
+    #[error("k is not from 1 to n")]
     Threshold,
-    // 3·t + 1 is more than k
+    #[error("3·t + 1 is more than k")]
     Altered,
-    // d is not from 1 to 64
+    #[error("d is not from 1 to 64")]
     KeyLength,
 }
 
@@ -36,17 +38,17 @@ pub struct Pair {
 }
 
 // Which question the call `deal` answered with no.
-#[derive(Clone, Copy, PartialEq, Eq, Debug)]
+#[derive(Clone, Copy, PartialEq, Eq, Debug, Error)]
 pub enum DealFault {
-    // there are not d key symbols
+    #[error("there are not d key symbols")]
     KeySymbols,
-    // there are not d·(k − 1) value coefficients and d·(t + 1) tag coefficients
+    #[error("there are not d·(k − 1) value coefficients and d·(t + 1) tag coefficients")]
     Coefficients,
-    // the buffer has not n·d pairs
+    #[error("the buffer has not n·d pairs")]
     Buffer,
-    // a number is not below the size of its field
+    #[error("a number is not below the size of its field")]
     Code,
-    // for k of 2 and more, the highest value coefficient of some place is zero
+    #[error("for k of 2 and more, the highest value coefficient of some place is zero")]
     TopCoefficient,
 }
 
@@ -58,10 +60,10 @@ pub struct Point<E> {
 }
 
 // Why points are refused.
-#[derive(Clone, Copy, PartialEq, Eq, Debug)]
+#[derive(Clone, Copy, PartialEq, Eq, Debug, Error)]
 pub enum PointsFault {
-    // there are too few, or more than 32
+    #[error("there are too few points, or more than 32")]
     Count,
-    // two have one abscissa
+    #[error("two points have one abscissa")]
     Repeated,
 }
