@@ -1,6 +1,6 @@
 // What a finite field is, and one that can be doubled. A field has a type of elements of its own and a fixed size; its
 // elements are numbered by the codes from 0 to the size less one, and every call is told by the codes.
-ghost use Rattle.std.specs.Prelude.{◌≡◌, ℕ, ◌≤◌, MatchOption};
+ghost use Rattle.std.specs.Prelude.{◌≡◌, ℕ, ◌≤◌, ◌==◌, MatchOption};
 ghost use Rattle.fields.specs.Laws.{Codes, DoublableLaws, FieldLaws};
 ghost use Rattle.fields.specs.Room.{Small};
 
@@ -55,6 +55,13 @@ pub trait Field {
     // The element with the code n, or nothing when n is not below the size.
     fn from_code(n: u64) -> Option<Self::Elem>
         ensures { MatchOption result (codes.size ≤ n) (λ x. code x ≡ n) };
+
+    // Whether two elements are equal; elements need no `==` of their own.
+    fn same(a: Self::Elem, b: Self::Elem) -> bool
+        ensures { result ≡ (code a == code b) }
+    {
+        Self::to_code(a) == Self::to_code(b)
+    }
 
     // what each field proves: the laws of a field on codes, and that codes and elements are in bijection
     ghost laws: { FieldLaws Self.Elem codes code };

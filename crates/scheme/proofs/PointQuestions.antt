@@ -1,15 +1,15 @@
 -- The questions about points, and what they settle.
 -- Assumes nothing.
-use Rattle.std.proofs.Common.{◌≡◌, ℕ, suc, ◌≤◌, Bool, true, false, cond, ◌&&◌, leb, List, [], ◌∷◌, map, length, filter, Some, None, Option, sym, refl, ap, ◌∙◌, ap₂, arith}
+use Rattle.std.proofs.Common.{◌≡◌, ℕ, suc, ◌≤◌, Bool, true, false, cond, ◌&&◌, leb, List, [], ◌∷◌, map, length, filter, Some, None, sym, refl, ap, ◌∙◌, ap₂, arith}
 use Rattle.std.proofs.lemmas.List.{length-map}
 use Rattle.std.proofs.lemmas.Simd.{map-map}
 use Rattle.std.proofs.lemmas.Bool.{leb-true, and_parts}
 use Rattle.std.specs.List.{list_all}
-use Rattle.scheme.specs.Fitting.{distinct, points_refusal}
+use Rattle.scheme.specs.Fitting.{distinct, points_questions, points_refusal}
 use Rattle.scheme.specs.Held.{point_codes}
 use Rattle.scheme.specs.declared.types.Point.{Point}
-use Rattle.scheme.specs.declared.types.PointsFault.{PointsFault}
 use Rattle.scheme.specs.declared.types.PointsFault.TheVariants.{Count, Repeated}
+use Rattle.scheme.proofs.Acceptance.{all_yes}
 
 -- a test of what is told of each element
 pub every_told : {A : Type 0} (test : ℕ → Bool) (f : A → ℕ) (list : List A) → list_all (λ a. test (f a)) list ≡ list_all test (map f list)
@@ -36,27 +36,16 @@ told code points least enough apart count codes =
     (ap distinct (map-map (λ (p : ℕ × ℕ). p.0) (λ (p : Point _). (code p.x, code p.y)) points) ∙ codes)
 
 module _ (points : List (ℕ × ℕ)) (least : ℕ) where
-  abbrev enough : Bool
-  enough = leb least (length points) && leb (length points) 32
-
-  abbrev apart : Bool
-  apart = distinct (map (λ p. p.0) points)
-
   pub record Settled : Type 0 where
     pub at_least : least ≤ length points
     pub at_most : length points ≤ 32
-    pub distinct_abscissae : apart ≡ true
+    pub distinct_abscissae : distinct (map (λ p. p.0) points) ≡ true
 
   pub settled : points_refusal points least ≡ None → Settled
-  settled e = by enough apart refl refl e
-    where
-      absent : (f : PointsFault) → ◌≡◌ {A = Option PointsFault} (Some f) None → ⊥
-      absent f q = let z : ◌≡◌ {A = ℕ} 0 1 = cc in omega arith
-
-      by : (a b : Bool) → enough ≡ a → apart ≡ b → cond a (cond b None (Some Repeated)) (Some Count) ≡ None → Settled
-      by true true ea eb q = let h = and_parts _ _ ea in record { at_least = leb-true _ _ h.0; at_most = leb-true _ _ h.1; distinct_abscissae = eb }
-      by true false ea eb q = absurd (absent Repeated q)
-      by false b ea eb q = absurd (absent Count q)
+  settled e =
+      let yes = all_yes (points_questions points least) e in
+      let count = and_parts _ _ yes.0 in
+      record { at_least = leb-true _ _ count.0; at_most = leb-true _ _ count.1; distinct_abscissae = yes.1.0 }
 
 -- how many points there are, once they are not refused
 pub bounds : {E : Type 0} (code : E → ℕ) (points : List (Point E)) (least : ℕ) → None ≡ points_refusal (point_codes code points) least

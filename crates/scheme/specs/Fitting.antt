@@ -1,9 +1,10 @@
 -- Which polynomials pass through given points, on codes. A point is the pair of the codes of its abscissa and its ordinate.
 -- Assumes nothing.
-use Rattle.std.specs.Prelude.{ℕ, zero, suc, ◌+◌, ◌-◌, ◌*◌, Bool, true, cond, not, ◌&&◌, List, [], ◌∷◌, ◌++◌, map, length, Some, None, Ok, Err, filter, Option, Result, ◌==◌, nat_le}
+use Rattle.std.specs.Prelude.{ℕ, zero, suc, ◌+◌, ◌-◌, ◌*◌, Bool, true, not, ◌&&◌, List, [], ◌∷◌, ◌++◌, map, length, Some, None, Ok, Err, filter, Option, Result, ◌==◌, nat_le}
 use Rattle.std.specs.List.{range_with_len, list_all}
 use Rattle.fields.specs.Laws.{Codes}
 use Rattle.scheme.specs.Polynomial.{value_at_lem}
+use Rattle.scheme.specs.Questions.{first_no, unless}
 use Rattle.scheme.specs.declared.types.PointsFault.{PointsFault}
 use Rattle.scheme.specs.declared.types.PointsFault.TheVariants.{Count, Repeated}
 
@@ -27,13 +28,12 @@ first [] = None
 first (a ∷ list) = Some a
 
 -- the questions: are the points at least `least` and at most 32, and their abscissae distinct?
-abbrev pub points_refusal : List (ℕ × ℕ) → ℕ → Option PointsFault
-points_refusal points least =
-    cond (nat_le least (length points) && nat_le (length points) 32) (cond (distinct (map (λ p. p.0) points)) None (Some Repeated)) (Some Count)
+abbrev pub points_questions : List (ℕ × ℕ) → ℕ → List (Bool × PointsFault)
+points_questions points least =
+    (nat_le least (length points) && nat_le (length points) 32, Count) ∷ (distinct (map (λ p. p.0) points), Repeated) ∷ []
 
-abbrev pub unless_refused : {A : Type 0} → Option PointsFault → A → Result A PointsFault
-unless_refused None a = Ok a
-unless_refused (Some e) a = Err e
+abbrev pub points_refusal : List (ℕ × ℕ) → ℕ → Option PointsFault
+points_refusal points least = first_no (points_questions points least)
 
 module _ (C : Codes) where
   abbrev pub passes : List ℕ → ℕ × ℕ → Bool
@@ -57,11 +57,11 @@ module _ (C : Codes) where
 
   -- what `decode` answers: the polynomial that fits, or nothing where none does
   abbrev pub decoded : List (ℕ × ℕ) → ℕ → Result (Option (List ℕ)) PointsFault
-  decoded points t = unless_refused (points_refusal points (3 * t + 1)) (first (fitting points t))
+  decoded points t = unless (points_refusal points (3 * t + 1)) (first (fitting points t))
 
   -- what `interpolate` answers
   abbrev pub interpolated : List (ℕ × ℕ) → Result (Option (List ℕ)) PointsFault
-  interpolated points = unless_refused (points_refusal points 1) (first (through points))
+  interpolated points = unless (points_refusal points 1) (first (through points))
 
   abbrev pub value_of : ℕ → Result (Option (List ℕ)) PointsFault → Result (Option ℕ) PointsFault
   value_of x (Ok None) = Ok None

@@ -1,5 +1,5 @@
 // Arithmetic of polynomials on their coefficients.
-ghost use Rattle.std.specs.Prelude.{◌≡◌, ◌<◌, [], ◌∷◌, ◌++◌, length, ◌==◌, T};
+ghost use Rattle.std.specs.Prelude.{◌≡◌, ◌<◌, [], ◌∷◌, ◌++◌, length, T};
 ghost use Rattle.algebra.specs.Polynomial.{lin, plus, scale, times_root};
 ghost use Rattle.fields.specs.Elements.{Over};
 ghost use Rattle.scheme.specs.Held.{polynomial_told};
@@ -8,22 +8,15 @@ ghost use Rattle.scheme.specs.Polynomial.{value_at_lem};
 use crate::held::Polynomial;
 use fields::Field;
 
-// Whether two elements are equal: a field has no `==` of its own.
-pub(crate) fn are_equal<F: Field>(a: F::Elem, b: F::Elem) -> bool
-    ensures { result ≡ (F.code a == F.code b) }
-{
-    F::to_code(a) == F::to_code(b)
-}
-
 // Whether a is zero.
 pub(crate) fn is_zero<F: Field>(a: F::Elem) -> bool
     ensures { (T result → F.code a ≡ 0) × (F.code a ≡ 0 → T result) }
 {
-    are_equal::<F>(a, F::zero())
+    F::same(a, F::zero())
 }
 
 // A turn of Horner's rule: c + x·value.
-fn horner<F: Field>(value: F::Elem, c: F::Elem, x: F::Elem) -> F::Elem
+pub(crate) fn horner<F: Field>(value: F::Elem, c: F::Elem, x: F::Elem) -> F::Elem
     ensures { F.code result ≡ F.codes.sum (F.code c) (F.codes.product (F.code x) (F.code value)) }
 {
     F::add(c, F::mul(x, value))
@@ -63,7 +56,7 @@ pub(crate) fn multiply_root<F: Field>(p: &mut Polynomial<F::Elem>, z: F::Elem)
     }
 }
 
-// p becomes p + c·r.
+// p becomes p + c·r: p grows in the loop, so it is written by index.
 pub(crate) fn add_multiple<F: Field>(
     p: &mut Polynomial<F::Elem>,
     c: F::Elem,

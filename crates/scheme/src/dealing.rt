@@ -172,7 +172,7 @@ impl<'a, F: Doublable> Secret<'a, F> {
     }
 
     // Fills the buffer with the shares, participant after participant: pair number `at` is for participant at / d + 1 and
-    // place at % d.
+    // place at % d. By number: of what is written through `chunks_mut` a proof knows only how many there are.
     fn write_shares(&self, shares: &mut [Pair])
         requires shares_len { length shares.old ≡ self.now.figures.n * self.now.figures.d }
         ensures { shares.new ≡ dealt_shares F.Field.codes F.Doublable.u F.Doublable.v self.now.figures self.now.key.now self.now.values.now self.now.tags.now }

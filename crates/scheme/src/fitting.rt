@@ -4,7 +4,7 @@ ghost use Rattle.std.specs.List.{list_all};
 ghost use Rattle.scheme.specs.Fitting.{agreements as agreementsOf, decoded, distinct, interpolated, interpolated_at, passes as passesThrough, points_refusal};
 ghost use Rattle.scheme.specs.Held.{decode_told, interpolate_told, point_codes, polynomial_told, refusal_of, value_told};
 
-use crate::arithmetic::{are_equal, value_at};
+use crate::arithmetic::value_at;
 use crate::decoding::{candidate, read_off, unit};
 use crate::held::Polynomial;
 use crate::types::{Point, PointsFault};
@@ -14,10 +14,10 @@ use fields::Field;
 fn is_new<F: Field>(points: &[Point<F::Elem>], x: F::Elem) -> bool
     ensures { result ≡ list_all (λ b. not (F.code x == b)) (map (λ p. F.code p.x) points.now) }
 {
-    points.iter().all(|p| !are_equal::<F>(x, p.x))
+    points.iter().all(|p| !F::same(x, p.x))
 }
 
-// Whether no two points have one abscissa.
+// Whether no two points have one abscissa: by recursion, as `distinct` is defined.
 fn are_distinct<F: Field>(points: &[Point<F::Elem>]) -> bool
     ensures { result ≡ distinct (map (λ p. F.code p.x) points.now) }
 {
@@ -44,7 +44,7 @@ fn ask_points<F: Field>(points: &[Point<F::Elem>], least: usize) -> Result<(), P
 fn passes<F: Field>(f: &Polynomial<F::Elem>, p: &Point<F::Elem>) -> bool
     ensures { result ≡ passesThrough F.codes (polynomial_told F.code f.now) (F.code p.now.x, F.code p.now.y) }
 {
-    are_equal::<F>(value_at::<F>(f, p.x), p.y)
+    F::same(value_at::<F>(f, p.x), p.y)
 }
 
 // Through how many of the points f passes.

@@ -3,6 +3,7 @@ ghost use Rattle.std.specs.Prelude.{◌≡◌, ◌<◌, IsTrue};
 ghost use Rattle.scheme.specs.Polynomial.{value_at_lem};
 ghost use Rattle.scheme.specs.Questions.{all_codes};
 
+use crate::arithmetic::horner;
 use fields::Field;
 
 // The element with a code that is known to be below the size.
@@ -19,8 +20,9 @@ pub(crate) fn evaluate<F: Field>(coefficients: &[u64], x: F::Elem) -> F::Elem
     ensures { F.code result ≡ value_at_lem F.codes coefficients.now (F.code x) }
 {
     let mut value = F::zero();
+    // a `for`: a closure under `fold` cannot know that a code is below the size
     for c in coefficients.iter().rev() {
-        value = F::add(element::<F>(*c), F::mul(x, value));
+        value = horner::<F>(value, element::<F>(*c), x);
     }
     value
 }

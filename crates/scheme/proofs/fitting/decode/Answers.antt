@@ -6,7 +6,8 @@ use Rattle.algebra.specs.Decoder.{answer, errors, place, down}
 use Rattle.algebra.proofs.Candidate.{fit_is_answer}
 use Rattle.fields.specs.Elements.{elements}
 use Rattle.fields.specs.Laws.{Codes, FieldLaws}
-use Rattle.scheme.specs.Fitting.{agreements, decoded, first, fits, fitting, points_refusal, unless_refused}
+use Rattle.scheme.specs.Fitting.{agreements, decoded, first, fits, fitting, points_refusal}
+use Rattle.scheme.specs.Questions.{unless}
 use Rattle.scheme.specs.Held.{abscissae, option_told, ordinates, point_codes, polynomial_told}
 use Rattle.scheme.specs.declared.held.Polynomial.{Polynomial}
 use Rattle.scheme.specs.declared.types.Point.{Point}
@@ -47,7 +48,7 @@ module _ {E : Type 0} {C : Codes} {code : E → ℕ} (L : FieldLaws E C code) (p
         true≢false (sym yes ∙ e)))
 
     answers : (b : Bool) → question f ≡ b → Ok (option_told code (then_some b f)) ≡ decoded C P t
-    answers b e = ap (unless_refused None) (sym (decides b e)) ∙ ap (λ (r : Option PointsFault). unless_refused r (first (fitting C P t))) asked
+    answers b e = ap (unless None) (sym (decides b e)) ∙ ap (λ (r : Option PointsFault). unless r (first (fitting C P t))) asked
 
 pub returns : goal.returns
 returns g c =
