@@ -1,6 +1,7 @@
 // A sitting with its table, the two states that a sitting is in, and what the calls on cards answer when they refuse.
 use scheme::{Figures, Pair};
 use std::marker::PhantomData;
+use thiserror::Error;
 
 // What lies on a table. Participant i has the 64 places from 64·(i − 1) on, of which a card of d pairs takes the first d.
 // Plain places made from one blank record, with flags beside them, are a promised form: no place tells whether a card lies.
@@ -32,30 +33,30 @@ pub struct Sealed<F> {
 }
 
 // Which question about a card was answered with no.
-#[derive(Clone, Copy, Debug, PartialEq, Eq)]
+#[derive(Clone, Copy, Debug, PartialEq, Eq, Error)]
 pub enum CardFault {
-    // the number is not from 1 to n
+    #[error("the number is not from 1 to n")]
     Number,
-    // the card has not d pairs
+    #[error("the card has not d pairs")]
     Pairs,
-    // a value is not below p or a tag not below q
+    #[error("a value is not below p or a tag not below q")]
     Code,
 }
 
 // Which question the call `present` answered with no.
-#[derive(Clone, Copy, Debug, PartialEq, Eq)]
+#[derive(Clone, Copy, Debug, PartialEq, Eq, Error)]
 pub enum PresentFault {
-    // one about the card
+    #[error(transparent)]
     Card(CardFault),
-    // a card of the number lies already
+    #[error("a card of the number lies already")]
     AlreadyLies,
 }
 
 // Which question the call `withdraw` answered with no.
-#[derive(Clone, Copy, Debug, PartialEq, Eq)]
+#[derive(Clone, Copy, Debug, PartialEq, Eq, Error)]
 pub enum WithdrawFault {
-    // the number is not from 1 to n
+    #[error("the number is not from 1 to n")]
     Number,
-    // no card of the number lies
+    #[error("no card of the number lies")]
     NotLying,
 }

@@ -1,18 +1,25 @@
 // The text of a card, line by line.
-ghost use Rattle.std.specs.Prelude.{◌≡◌, [], map};
+ghost use Rattle.std.specs.Prelude.{◌≡◌, ◌≤◌, ◌+◌, ℕ, List, [], ◌++◌, length, map};
 ghost use Rattle.text.specs.Lines.{written_line};
 ghost use Rattle.text.specs.Numbers.{listed};
-ghost use Rattle.text.specs.Writing.{Extends, HasRoom, picked, scheme_lines};
+ghost use Rattle.text.specs.Writing.{picked, scheme_lines};
 
 use crate::types::{FieldName, Half, Key};
 use arrayvec::ArrayVec;
 use itoa::{Buffer, Integer};
 use scheme::{Figures, Pair};
+use std::marker::Model;
 
-// The text of a card, or a part of it, while it is written: at most 1,024 bytes.
+// The text of a card, or a part of it, while it is written: at most 1,024 bytes. A contract sees the list of them.
 #[derive(Drop)]
 pub(crate) struct CardText {
     bytes: ArrayVec<u8, 1024>,
+}
+
+impl Model for CardText {
+    ghost Value = { List ℕ };
+
+    ghost view = { λ text. text.bytes.items };
 }
 
 impl Half {
@@ -30,7 +37,7 @@ impl Half {
 impl CardText {
     // a text with no bytes yet
     pub(crate) fn new() -> CardText
-        ensures { result.bytes.items ≡ [] }
+        ensures { result ≡ [] }
     {
         CardText {
             bytes: ArrayVec::new(),
@@ -39,31 +46,31 @@ impl CardText {
 
     // the bytes so far
     pub(crate) fn as_slice(&self) -> &[u8]
-        ensures { result.now ≡ self.now.bytes.items }
+        ensures { result.now ≡ self.now }
     {
         self.bytes.as_slice()
     }
 
     // appends bytes, for which there must be room
     fn push(&mut self, bytes: &[u8])
-        requires { HasRoom self.old bytes.now }
-        ensures { Extends self.old bytes.now self.new }
+        requires { length self.old + length bytes.now ≤ 1024 }
+        ensures { self.new ≡ self.old ++ bytes.now }
     {
         self.bytes.try_extend_from_slice(bytes).unwrap();
     }
 
     // appends the digits of a number
     fn push_number<N: Integer>(&mut self, n: N)
-        requires { HasRoom self.old (N.text n) }
-        ensures { Extends self.old (N.text n) self.new }
+        requires { length self.old + length (N.text n) ≤ 1024 }
+        ensures { self.new ≡ self.old ++ N.text n }
     {
         self.push(Buffer::new().format(n).as_bytes());
     }
 
     // appends the values or the tags of a card, separated by commas
     fn push_list(&mut self, half: Half, card: &[Pair])
-        requires { HasRoom self.old (listed (map (picked half) card.now)) }
-        ensures { Extends self.old (listed (map (picked half) card.now)) self.new }
+        requires { length self.old + length (listed (map (picked half) card.now)) ≤ 1024 }
+        ensures { self.new ≡ self.old ++ listed (map (picked half) card.now) }
     {
         if let Some((first, others)) = card.split_first() {
             self.push_number(half.of(first));
@@ -76,8 +83,8 @@ impl CardText {
 
     // appends a line with this key and content
     pub(crate) fn push_line(&mut self, key: Key, content: &[u8])
-        requires { HasRoom self.old (written_line key content.now) }
-        ensures { Extends self.old (written_line key content.now) self.new }
+        requires { length self.old + length (written_line key content.now) ≤ 1024 }
+        ensures { self.new ≡ self.old ++ written_line key content.now }
     {
         self.push(key.word());
         self.push(content);
@@ -86,16 +93,16 @@ impl CardText {
 
     // appends a line with this key and number
     pub(crate) fn push_number_line<N: Integer>(&mut self, key: Key, n: N)
-        requires { HasRoom self.old (written_line key (N.text n)) }
-        ensures { Extends self.old (written_line key (N.text n)) self.new }
+        requires { length self.old + length (written_line key (N.text n)) ≤ 1024 }
+        ensures { self.new ≡ self.old ++ written_line key (N.text n) }
     {
         self.push_line(key, Buffer::new().format(n).as_bytes());
     }
 
     // appends a line with this key and the values or the tags of a card
     pub(crate) fn push_list_line(&mut self, key: Key, half: Half, card: &[Pair])
-        requires { HasRoom self.old (written_line key (listed (map (picked half) card.now))) }
-        ensures { Extends self.old (written_line key (listed (map (picked half) card.now))) self.new }
+        requires { length self.old + length (written_line key (listed (map (picked half) card.now))) ≤ 1024 }
+        ensures { self.new ≡ self.old ++ written_line key (listed (map (picked half) card.now)) }
     {
         let mut list = CardText::new();
         list.push_list(half, card);
@@ -104,8 +111,8 @@ impl CardText {
 
     // appends the five lines that tell of a scheme
     pub(crate) fn push_scheme_lines(&mut self, field: FieldName, figures: &Figures)
-        requires { HasRoom self.old (scheme_lines field figures.now) }
-        ensures { Extends self.old (scheme_lines field figures.now) self.new }
+        requires { length self.old + length (scheme_lines field figures.now) ≤ 1024 }
+        ensures { self.new ≡ self.old ++ scheme_lines field figures.now }
     {
         self.push_line(Key::Field, field.word());
         self.push_number_line(Key::Participants, figures.n());

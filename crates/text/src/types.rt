@@ -4,6 +4,7 @@ ghost use Rattle.std.specs.Prelude.{◌≤◌};
 use crate::numbers::NumberList;
 use scheme::{DealFault, Figures, FiguresFault, Pair};
 use sitting::CardFault;
+use thiserror::Error;
 
 // The name of a field, as it stands in a text.
 #[derive(Clone, Copy, PartialEq, Eq, Debug)]
@@ -57,25 +58,25 @@ pub(crate) enum Key {
 }
 
 // Why a text is refused, with the line where that is not always the same.
-#[derive(Clone, Copy, PartialEq, Eq, Debug)]
+#[derive(Clone, Copy, PartialEq, Eq, Debug, Error)]
 pub enum TextFault {
-    // the text has more than 1,024 bytes
+    #[error("the text has more than 1,024 bytes")]
     TooLong,
-    // the line does not begin with its key and an equals sign
+    #[error("line {line} does not begin with its key and an equals sign")]
     Key { line: u32 },
-    // what stands behind the key is no such number, list of numbers or field's name
+    #[error("what stands behind the key of line {line} is no such number, list of numbers or field's name")]
     Content { line: u32 },
-    // the line does not end there
+    #[error("line {line} does not end behind its content")]
     LineEnd { line: u32 },
-    // something follows the last line
+    #[error("something follows the last line")]
     Follows,
-    // the figures do not pass
+    #[error("the figures do not pass")]
     Figures,
-    // the number of the card is not from 1 to n
+    #[error("the number of the card is not from 1 to n")]
     Number,
-    // a list has not d numbers
+    #[error("the list in line {line} has not d numbers")]
     Count { line: u32 },
-    // a number is not a code of its field
+    #[error("a number in line {line} is not a code of its field")]
     Code { line: u32 },
 }
 
@@ -117,11 +118,11 @@ pub(crate) enum Half {
 }
 
 // Why a card is not written.
-#[derive(Clone, Copy, Debug, PartialEq, Eq)]
+#[derive(Clone, Copy, Debug, PartialEq, Eq, Error)]
 pub enum WriteFault {
-    // the card is refused
+    #[error(transparent)]
     Card(CardFault),
-    // the buffer has fewer than 1,024 bytes
+    #[error("the buffer has fewer than 1,024 bytes")]
     Buffer,
 }
 
@@ -140,14 +141,14 @@ pub struct Sheet {
 }
 
 // Why a dealing sheet is refused.
-#[derive(Clone, Copy, PartialEq, Eq, Debug)]
+#[derive(Clone, Copy, PartialEq, Eq, Debug, Error)]
 pub enum SheetFault {
-    // the text has more than 16,384 bytes
+    #[error("the text has more than 16,384 bytes")]
     TooLong,
-    // a line is refused, or something follows the last
+    #[error(transparent)]
     Line(TextFault),
-    // the figures do not pass
+    #[error(transparent)]
     Figures(FiguresFault),
-    // the lists or their numbers are not those of a dealing
+    #[error(transparent)]
     Deal(DealFault),
 }

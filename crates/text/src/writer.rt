@@ -51,7 +51,7 @@ fn ask_named(
 // The text of a card.
 fn text_of(field: FieldName, figures: &Figures, number: u64, card: &[Pair]) -> CardText
     requires { length (card_text field figures.now number card.now) ≤ 1024 }
-    ensures { result.bytes.items ≡ card_text field figures.now number card.now }
+    ensures { result ≡ card_text field figures.now number card.now }
 {
     let mut text = CardText::new();
     text.push_scheme_lines(field, figures);

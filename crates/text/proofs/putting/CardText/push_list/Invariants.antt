@@ -6,4 +6,4 @@ use Rattle.text.proofs.putting.CardText.push_list.Given as goal
 -- what is written and what is still to write are the whole list
 abbrev pub invariant-loop-pair : goal.invariant-loop-pair
 invariant-loop-pair l =
-    l.self.bytes.items ++ others (map (picked l.half) (drop l.pair-index l.others)) ≡ l.fn.self.bytes.items ++ listed (map (picked l.half) l.fn.card)
+    l.self ++ others (map (picked l.half) (drop l.pair-index l.others)) ≡ l.fn.self ++ listed (map (picked l.half) l.fn.card)
