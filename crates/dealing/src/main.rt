@@ -1,9 +1,9 @@
 // Deals a worked example over p251 and prints what it does: the figures, and then each card's number, value and tag.
 #![tactic(auto)]
 
+use anyhow::Result;
 use fields::P251;
-use scheme::{Figures, Pair, deal, figures};
-use std::io;
+use scheme::{Pair, deal, figures};
 
 // The key, and the coefficients that a dealer would draw by chance.
 const KEY: [u64; 1] = [7];
@@ -12,26 +12,17 @@ const VALUES: [u64; 3] = [1, 0, 2];
 
 const TAGS: [u64; 2] = [5, 3];
 
-fn main(rt: HostRuntime) -> io::Result<()> {
-    match figures(5, 4, 1, 1) {
-        Ok(passed) => deal_and_print(&rt, &passed),
-        Err(fault) => println!(rt; "refused={}", fault.number()),
-    }
-}
-
-// Deals the example, and prints the figures and the cards.
-fn deal_and_print(rt: &HostRuntime, passed: &Figures) -> io::Result<()> {
+fn main(rt: HostRuntime) -> Result<()> {
+    let passed = figures(5, 4, 1, 1)?;
     let (n, k, t, d) = (passed.n(), passed.k(), passed.t(), passed.d());
     println!(rt; "field=p251 n={n} k={k} t={t} d={d}")?;
     let mut cards = [Pair::default(); 5];
-    match deal::<P251>(passed, &KEY, &VALUES, &TAGS, &mut cards) {
-        Ok(_) => print_cards(rt, &cards),
-        Err(fault) => println!(rt; "refused={}", fault.number()),
-    }
+    deal::<P251>(&passed, &KEY, &VALUES, &TAGS, &mut cards)?;
+    print_cards(&rt, &cards)
 }
 
 // A line for each card.
-fn print_cards(rt: &HostRuntime, cards: &[Pair]) -> io::Result<()> {
+fn print_cards(rt: &HostRuntime, cards: &[Pair]) -> Result<()> {
     for (number, Pair { value, tag }) in (1..).zip(cards) {
         println!(rt; "card={number} value={value} tag={tag}")?;
     }

@@ -95,7 +95,7 @@ fn points<F: Field, W: Fn(u8) -> bool>(
 
 // Whether y is the source's value at x.
 fn is_value<F: Field>(t: usize, x: F::Elem, y: F::Elem) -> bool {
-    F::to_code(y) == F::to_code(source::<F>(t, x))
+    F::same(y, source::<F>(t, x))
 }
 
 // Whether f has the values of the source at forty further abscissae, which tells apart any two of the polynomials here.

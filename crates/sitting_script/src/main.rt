@@ -4,7 +4,7 @@
 ghost use Rattle.std.specs.Prelude.{◌≡◌, length, replicate};
 
 use fields::{Byte, Doublable, P251};
-use scheme::{Figures, Pair, deal, figures};
+use scheme::{Pair, deal, figures};
 use sitting::{Gathering, KeyHolder, confirm_key};
 use std::io;
 
@@ -15,14 +15,11 @@ enum Call<'a> {
     Withdraw(u64),
 }
 
-fn main(rt: HostRuntime) -> io::Result<()> {
-    if let Ok(passed) = figures(5, 4, 1, 1) {
-        over_p251(&rt, passed)?;
-    }
-    if let Ok(passed) = figures(32, 31, 10, 64) {
-        over_byte(&rt, passed)?;
-    }
-    keys(&rt)
+fn main(rt: HostRuntime) -> anyhow::Result<()> {
+    over_p251(&rt)?;
+    over_byte(&rt)?;
+    keys(&rt)?;
+    Ok(())
 }
 
 // Makes the calls of a script, and prints each with its answer.
@@ -52,9 +49,10 @@ fn pair(value: u64, tag: u64) -> Pair {
 }
 
 // The cards of key 7 over p251, and others.
-fn over_p251(rt: &HostRuntime, passed: Figures) -> io::Result<()> {
+fn over_p251(rt: &HostRuntime) -> anyhow::Result<()> {
+    let passed = figures(5, 4, 1, 1)?;
     let mut cards = [pair(0, 0); 5];
-    let _ = deal::<P251>(&passed, &[7], &[1, 0, 2], &[5, 3], &mut cards);
+    deal::<P251>(&passed, &[7], &[1, 0, 2], &[5, 3], &mut cards)?;
     println!(rt; "p251 n=5 k=4 t=1 d=1")?;
     let mut sitting = Gathering::<P251>::new(passed);
     for (i, card) in (1..).zip(&cards) {
@@ -73,7 +71,8 @@ fn over_p251(rt: &HostRuntime, passed: Figures) -> io::Result<()> {
             Call::Present("again", 2, &[pair(26, 1586)]),
             Call::Present("still lying", 1, &[pair(10, 788)]),
         ],
-    )
+    )?;
+    Ok(())
 }
 
 // Each question in its turn, and two questions at once.
@@ -113,7 +112,8 @@ fn withdrawals(rt: &HostRuntime, sitting: &mut Gathering<P251>) -> io::Result<()
 }
 
 // The largest figures, over byte.
-fn over_byte(rt: &HostRuntime, passed: Figures) -> io::Result<()> {
+fn over_byte(rt: &HostRuntime) -> anyhow::Result<()> {
+    let passed = figures(32, 31, 10, 64)?;
     println!(rt; "byte n=32 k=31 t=10 d=64")?;
     let mut sitting = Gathering::<Byte>::new(passed);
     let highest = [pair(255, 65535); 64];
@@ -133,7 +133,8 @@ fn over_byte(rt: &HostRuntime, passed: Figures) -> io::Result<()> {
             Call::Withdraw(32),
             Call::Withdraw(32),
         ],
-    )
+    )?;
+    Ok(())
 }
 
 // Keys that are used and then are blank.

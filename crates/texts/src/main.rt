@@ -8,10 +8,10 @@ mod tables;
 
 use cases::{CASES, Case, DEALT, LARGEST};
 use judging::{WAS, are_untouched, is_read_as, is_written_as};
-use scheme::{Figures, FiguresFault, Pair, figures};
+use scheme::{Figures, Pair, figures};
 use std::io;
 use std::str::from_utf8;
-use tables::{Bad, CARDS, CONTENTS, ENDS, FIGURES, Good, KEYS, LISTS, OVER_BYTE, READ};
+use tables::{CARDS, CONTENTS, ENDS, FIGURES, KEYS, LISTS, OVER_BYTE, READ, Row};
 use text::{CardRead, CardReader, FieldName, write_card};
 
 // A text that is read.
@@ -35,12 +35,10 @@ const PARTS: [(&str, &[u8]); 4] = [
     ),
 ];
 
-fn main(rt: HostRuntime) -> io::Result<()> {
-    for row in &READ {
-        show_good(&rt, row)?;
-    }
+fn main(rt: HostRuntime) -> anyhow::Result<()> {
     for rows in [
-        &KEYS[..],
+        &READ[..],
+        &KEYS,
         &CONTENTS,
         &LISTS,
         &ENDS,
@@ -49,39 +47,31 @@ fn main(rt: HostRuntime) -> io::Result<()> {
         &OVER_BYTE,
     ] {
         for row in rows {
-            show_bad(&rt, row)?;
+            show_text(&rt, row)?;
         }
     }
     lengths(&rt)?;
     parts(&rt)?;
     worked_example(&rt)?;
-    show_cases(&rt, figures(5, 4, 1, 2), &CASES)?;
-    show_cases(&rt, figures(32, 31, 10, 64), &LARGEST)
+    show_cases(&rt, &figures(5, 4, 1, 2)?, &CASES)?;
+    show_cases(&rt, &figures(32, 31, 10, 64)?, &LARGEST)?;
+    Ok(())
 }
 
 // ---- the reader: on the tables of texts, on texts of about 1,024 bytes, and the parts that it shows
 
-// Shows that a text is read, and whether the writer gives it back.
-fn show_good(rt: &HostRuntime, row: &Good) -> io::Result<()> {
-    let name = row.name;
-    match CardReader::new(row.text).read() {
+// Shows what the reader answers to a text: of one that is read, whether the writer gives it back; of one that is refused, whether
+// the refusal is the one that the table expects.
+fn show_text(rt: &HostRuntime, (name, text, refusal): &Row) -> io::Result<()> {
+    match CardReader::new(text).read() {
         Ok(card) => {
-            let length = row.text.len();
-            let back = is_written_as(&card, row.text);
+            let length = text.len();
+            let back = is_written_as(&card, text);
             println!(rt; "{name}: read, {length} bytes, written back={back}")
         }
-        Err(fault) => println!(rt; "{name}: refused={} line={}", fault.number(), fault.line()),
-    }
-}
-
-// Shows the refusal of a text, and whether it is the one that the table expects.
-fn show_bad(rt: &HostRuntime, row: &Bad) -> io::Result<()> {
-    let name = row.name;
-    match CardReader::new(row.text).read() {
-        Ok(_) => println!(rt; "{name}: read"),
         Err(fault) => {
             let (number, line) = (fault.number(), fault.line());
-            let expected = (number, line) == (row.number, row.line);
+            let expected = *refusal == Some((number, line));
             println!(rt; "{name}: refused={number} line={line} expected={expected}")
         }
     }
@@ -119,30 +109,29 @@ fn show_lengths(rt: &HostRuntime, name: &str, bytes: &[u8; 1025]) -> io::Result<
 }
 
 // The two lists as parts of a text, and what a whole text tells.
-fn parts(rt: &HostRuntime) -> io::Result<()> {
+fn parts(rt: &HostRuntime) -> anyhow::Result<()> {
     for (name, text) in PARTS {
         let reader = CardReader::new(text);
         println!(rt;
             "{name}: values={} tags={}",
-            shown(reader.values()),
-            shown(reader.tags())
+            reader.values().map_or("none", text_of),
+            reader.tags().map_or("none", text_of)
         )?;
     }
-    if let Ok(card) = CardReader::new(WHOLE).read() {
-        show_card(rt, &card)?;
-    }
+    let card = CardReader::new(WHOLE).read()?;
+    show_card(rt, &card)?;
     Ok(())
 }
 
-// A part of a text for printing.
-fn shown<'a>(part: Option<&'a [u8]>) -> &'a str {
-    part.map_or("none", |bytes| from_utf8(bytes).unwrap_or("no text"))
+// The bytes as text, for printing.
+fn text_of(bytes: &[u8]) -> &str {
+    from_utf8(bytes).unwrap_or("no text")
 }
 
 // Shows all that a text tells.
 fn show_card(rt: &HostRuntime, card: &CardRead) -> io::Result<()> {
     let (number, pairs) = (card.number(), card.card());
-    let field = shown(Some(card.field().word()));
+    let field = text_of(card.field().word());
     let f = card.figures();
     let (n, k, t, d) = (f.n(), f.k(), f.t(), f.d());
     println!(rt; "a whole text: field={field} figures={n},{k},{t},{d} card={number} {pairs:?}")
@@ -151,16 +140,9 @@ fn show_card(rt: &HostRuntime, card: &CardRead) -> io::Result<()> {
 // ---- the writer: the worked example, every refusal at its boundary, and the largest texts
 
 // Shows the cases with figures that passed.
-fn show_cases(
-    rt: &HostRuntime,
-    answer: Result<Figures, FiguresFault>,
-    cases: &[Case],
-) -> io::Result<()> {
-    let Ok(f) = answer else {
-        return println!(rt; "no figures");
-    };
+fn show_cases(rt: &HostRuntime, f: &Figures, cases: &[Case]) -> io::Result<()> {
     for case in cases {
-        show_case(rt, &f, case)?;
+        show_case(rt, f, case)?;
     }
     Ok(())
 }
@@ -185,10 +167,8 @@ fn show_case(rt: &HostRuntime, f: &Figures, case: &Case) -> io::Result<()> {
 }
 
 // Writes the five cards of the worked example, and prints the text of card 2.
-fn worked_example(rt: &HostRuntime) -> io::Result<()> {
-    let Ok(f) = figures(5, 4, 1, 1) else {
-        return println!(rt; "no figures");
-    };
+fn worked_example(rt: &HostRuntime) -> anyhow::Result<()> {
+    let f = figures(5, 4, 1, 1)?;
     for (number, pair) in (1..).zip(DEALT) {
         let case = Case {
             name: "worked example",
@@ -203,10 +183,9 @@ fn worked_example(rt: &HostRuntime) -> io::Result<()> {
 }
 
 // Prints the text of a card over p251.
-fn print_text(rt: &HostRuntime, f: &Figures, number: u64, card: &[Pair]) -> io::Result<()> {
+fn print_text(rt: &HostRuntime, f: &Figures, number: u64, card: &[Pair]) -> anyhow::Result<()> {
     let mut buffer = [WAS; 1024];
-    match write_card(FieldName::P251, f, number, card, &mut buffer) {
-        Ok(length) => print!(rt; "{}", shown(Some(&buffer[..length]))),
-        Err(fault) => println!(rt; "refused={}", fault.number()),
-    }
+    let length = write_card(FieldName::P251, f, number, card, &mut buffer)?;
+    print!(rt; "{}", text_of(&buffer[..length]))?;
+    Ok(())
 }

@@ -2,7 +2,7 @@
 #![tactic(auto)]
 
 use fields::{Byte, Doubled, Field, P251};
-use scheme::{Pair, deal, figures};
+use scheme::{Figures, Pair, deal, figures};
 use std::io;
 
 // The numbers n, k, t and d that the call `figures` is asked about.
@@ -99,14 +99,15 @@ const DEALINGS: [Case; 10] = [
     },
 ];
 
-fn main(rt: HostRuntime) -> io::Result<()> {
+fn main(rt: HostRuntime) -> anyhow::Result<()> {
     products(&rt)?;
     inverses(&rt)?;
     for [n, k, t, d] in FIGURES {
         show_figures(&rt, n, k, t, d)?;
     }
+    let f = figures(5, 4, 1, 1)?;
     for case in &DEALINGS {
-        show_dealing(&rt, case)?;
+        show_dealing(&rt, &f, case)?;
     }
     dealt_over_byte(&rt)
 }
@@ -174,17 +175,12 @@ fn show_figures(rt: &HostRuntime, n: u64, k: u64, t: u64, d: u64) -> io::Result<
 }
 
 // Makes the call `deal`, and shows the answer; refused, also whether the pairs are as they were.
-fn show_dealing(rt: &HostRuntime, case: &Case) -> io::Result<()> {
-    let Ok(f) = figures(5, 4, 1, 1) else {
-        return println!(rt; "no figures");
-    };
+fn show_dealing(rt: &HostRuntime, f: &Figures, case: &Case) -> io::Result<()> {
     let was = Pair { value: 99, tag: 99 };
     let mut buffer = [was; 5];
-    let Some(shares) = buffer.get_mut(..case.room) else {
-        return println!(rt; "no room");
-    };
+    let room = case.room.min(buffer.len());
     let name = case.name;
-    match deal::<P251>(&f, case.key, case.values, case.tags, shares) {
+    match deal::<P251>(f, case.key, case.values, case.tags, &mut buffer[..room]) {
         Ok(count) => println!(rt; "{name}: dealt={count} {buffer:?}"),
         Err(fault) => {
             let untouched = buffer == [was; 5];
@@ -194,16 +190,13 @@ fn show_dealing(rt: &HostRuntime, case: &Case) -> io::Result<()> {
 }
 
 // A dealing over byte with two places, whose pairs were computed by another program.
-fn dealt_over_byte(rt: &HostRuntime) -> io::Result<()> {
-    let Ok(f) = figures(7, 5, 1, 2) else {
-        return println!(rt; "no figures");
-    };
+fn dealt_over_byte(rt: &HostRuntime) -> anyhow::Result<()> {
+    let f = figures(7, 5, 1, 2)?;
     let mut shares = [Pair::default(); 14];
     let key = [0x2a, 0xff];
     let values = [1, 2, 3, 4, 0x80, 0, 0x1b, 0xfe];
     let tags = [0x1234, 0xabcd, 0xffff, 0x0100];
-    match deal::<Byte>(&f, &key, &values, &tags, &mut shares) {
-        Ok(count) => println!(rt; "byte dealt={count} {shares:?}"),
-        Err(fault) => println!(rt; "byte refused={}", fault.number()),
-    }
+    let count = deal::<Byte>(&f, &key, &values, &tags, &mut shares)?;
+    println!(rt; "byte dealt={count} {shares:?}")?;
+    Ok(())
 }
