@@ -5,7 +5,7 @@ use Rattle.std.proofs.Common.{◌≡◌, ℕ, suc, ◌+◌, ◌-◌, ◌<◌, �
 use Rattle.std.specs.List.{AllByRecursion}
 use Rattle.algebra.specs.Field.{Field}
 use Rattle.algebra.specs.Polynomial.{eval, plus, scale, lin, times_root}
-use Rattle.algebra.specs.Decoder.{Lead, Ratio, State, start, raise, add_multiple_lem, discrepancy, move, step, run}
+use Rattle.algebra.specs.Decoder.{Lead, Ratio, State, start, raise, plus_multiple, discrepancy, move, step, run}
 use Rattle.algebra.proofs.Rules.{mul_zero}
 use Rattle.algebra.proofs.Normal.{v, :0, :1, ◌:+◌, ◌:-◌, ◌:*◌, :-◌, ring, ring_from}
 use Rattle.algebra.proofs.Counting.{all_with}
@@ -61,7 +61,7 @@ module _ {K : Type 0} (F : Field K) where
 
     -- the discrepancy of p + c·r; it is zero where those of p and r are, and where c is minus the quotient of the two
     discrepancy_add : (p : Ratio F) (c : K) (r : Ratio F) (i : I)
-        → discrepancy F x y (add_multiple_lem F p c r) i ≡ discrepancy F x y p i ⊕ c ⊗ discrepancy F x y r i
+        → discrepancy F x y (plus_multiple F p c r) i ≡ discrepancy F x y p i ⊕ c ⊗ discrepancy F x y r i
     discrepancy_add p c r i =
         ap₂ (λ a b. a ⊕ ⊖ (y i ⊗ b))
         (eval_add_multiple F p.top c r.top (x i)) (eval_add_multiple F p.bottom c r.bottom (x i))
@@ -74,11 +74,11 @@ module _ {K : Type 0} (F : Field K) where
     raise_sat : (z : K) (p : Ratio F) (i : I) → Sat p i → Sat (raise F z p) i
     raise_sat z p i h = discrepancy_raise z p i ∙ ap (λ w. (x i ⊕ ⊖ z) ⊗ w) h ∙ mul_zero F _
 
-    add_sat : (p : Ratio F) (c : K) (r : Ratio F) (i : I) → Sat p i → Sat r i → Sat (add_multiple_lem F p c r) i
+    add_sat : (p : Ratio F) (c : K) (r : Ratio F) (i : I) → Sat p i → Sat r i → Sat (plus_multiple F p c r) i
     add_sat p c r i h k = discrepancy_add p c r i ∙ ap₂ (λ a b. a ⊕ c ⊗ b) h k ∙ ring F (c ∷ []) (:0 :+ v 0 :* :0) :0 tt
 
     add_here : (p r : Ratio F) (i : I) → (discrepancy F x y r i ≡ 𝟘 → ⊥)
-        → Sat (add_multiple_lem F p (⊖ (discrepancy F x y p i ⊗ inv (discrepancy F x y r i))) r) i
+        → Sat (plus_multiple F p (⊖ (discrepancy F x y p i ⊗ inv (discrepancy F x y r i))) r) i
     add_here p r i n =
         discrepancy_add p _ r i
         ∙ ring_from F (discrepancy F x y p i ∷ discrepancy F x y r i ∷ inv (discrepancy F x y r i) ∷ [])

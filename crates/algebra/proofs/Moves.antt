@@ -3,7 +3,7 @@
 use Rattle.std.proofs.Common.{◌≡◌, ℕ, suc, ◌+◌, ◌<◌, ◌≤◌, Bool, true, false, ltb, List, [], ◌∷◌, length, arith}
 use Rattle.algebra.specs.Field.{Field}
 use Rattle.algebra.specs.Polynomial.{plus, scale, times_root}
-use Rattle.algebra.specs.Decoder.{State, raise, add_multiple_lem, discrepancy, move, step, run}
+use Rattle.algebra.specs.Decoder.{State, raise, plus_multiple, discrepancy, move, step, run}
 use Rattle.algebra.proofs.Polynomials.{times_root_within}
 use Rattle.algebra.proofs.Unique.{length_scale, length_plus_le}
 
@@ -36,12 +36,12 @@ module _ {K : Type 0} (X : Field K) (x y : K) (t : ℕ) (s : State X) where
 
   -- neither is zero, and the first ratio is raised
   pub step_less : (da ≡ 𝟘 → ⊥) → (db ≡ 𝟘 → ⊥) → length s.first.top < length s.second.bottom + t
-      → next ≡ record { first = raise X x s.first; second = add_multiple_lem X s.second (⊖ (db ⊗ inv da)) s.first }
+      → next ≡ record { first = raise X x s.first; second = plus_multiple X s.second (⊖ (db ⊗ inv da)) s.first }
   step_less k h l = grind arith
 
   -- neither is zero, and the second ratio is raised
   pub step_more : (da ≡ 𝟘 → ⊥) → (db ≡ 𝟘 → ⊥) → length s.second.bottom + t ≤ length s.first.top
-      → next ≡ record { first = add_multiple_lem X s.first (⊖ (da ⊗ inv db)) s.second; second = raise X x s.second }
+      → next ≡ record { first = plus_multiple X s.first (⊖ (da ⊗ inv db)) s.second; second = raise X x s.second }
   step_more k h l = grind arith
 
 module _ {K : Type 0} (X : Field K) where

@@ -71,8 +71,8 @@ module _ {K : Type 0} (F : Field K) where
   raise z p = record { top = times_root F z p.top; bottom = times_root F z p.bottom }
 
   -- p + c·r, top and bottom each
-  abbrev pub add_multiple_lem : Ratio → K → Ratio → Ratio
-  add_multiple_lem p c r = record {
+  abbrev pub plus_multiple : Ratio → K → Ratio → Ratio
+  plus_multiple p c r = record {
     top = plus F p.top (scale F c r.top);
     bottom = plus F p.bottom (scale F c r.bottom);
   }
@@ -85,8 +85,8 @@ module _ {K : Type 0} (F : Field K) where
   move s z da db (no _) (yes _) b = record { first = raise z s.first; second = s.second }
   move s z da db (no _) (no _) b =
       cond b
-      (record { first = raise z s.first; second = add_multiple_lem s.second (⊖ (db ⊗ inv da)) s.first })
-      (record { first = add_multiple_lem s.first (⊖ (da ⊗ inv db)) s.second; second = raise z s.second })
+      (record { first = raise z s.first; second = plus_multiple s.second (⊖ (db ⊗ inv da)) s.first })
+      (record { first = plus_multiple s.first (⊖ (da ⊗ inv db)) s.second; second = raise z s.second })
 
   module _ {I : Type 0} (x y : I → K) where
     -- top - y·bottom at the point i

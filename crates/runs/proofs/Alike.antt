@@ -6,7 +6,7 @@ use Rattle.std.proofs.lemmas.List.Elements.{filter_agree}
 use Rattle.std.proofs.lemmas.Bool.{leb-true, leb-false, eqb-true, not-false, cases_Bool, cond-true, cond-false}
 use Rattle.algebra.specs.Count.{In}
 use Rattle.scheme.specs.Questions.{first_no}
-use Rattle.scheme.specs.Polynomial.{value_at_lem}
+use Rattle.scheme.specs.Polynomial.{polynomial_value}
 use Rattle.scheme.specs.Dealing.{participants, places}
 use Rattle.scheme.specs.declared.types.Figures.{Figures}
 use Rattle.fields.specs.Laws.{Codes}
@@ -73,7 +73,7 @@ module _ (D : Deal) (group : List ℕ) (grp : Group D.figures group) (c : Choice
 
     -- a card that does not stray has its values as dealt
     values_dealt : (a : ℕ × Card) → In a on_table → strays D c a ≡ false → (j : ℕ) → j < figures.d
-        → value_at_lem codes (value_polynomials D j) a.0 ≡ (pair_at a.1 j).value
+        → polynomial_value codes (value_polynomials D j) a.0 ≡ (pair_at a.1 j).value
     values_dealt a k e j l =
         let whole = sym (stray_is a.0 a.1 (lying_lies codes figures u v (calls D c past) a k)) ∙ e in
         sym (eqb-true _ _ (not-false _ (unaltered_parts D c a.0 a.1 whole j l).0) ∙ card_value D c a.0 j l)
@@ -87,7 +87,7 @@ module _ (D : Deal) (group : List ℕ) (grp : Group D.figures group) (c : Choice
           (deals_sound D group c hc) (most D group grp c hc past permitted) buffer names three (value_polynomials D)
           (value_polynomials_codes D) values_dealt
           (omega (arith, clean_count))
-          ∙ ap₂ (λ m l. opening_to m l (map (λ j. value_at_lem codes (value_polynomials D j) 0) (places figures)) names)
+          ∙ ap₂ (λ m l. opening_to m l (map (λ j. polynomial_value codes (value_polynomials D j) 0) (places figures)) names)
           (lying_length codes figures u v (calls D c past)) strays_are
           ∙ ap (λ k. opening_to (length (numbers_lying codes figures (calls D c past))) A k names) (key_is D);
       refuses_else = λ few.

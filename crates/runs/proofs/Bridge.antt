@@ -15,7 +15,7 @@ use Rattle.algebra.proofs.Theorems.{exactly_below}
 use Rattle.fields.specs.Laws.{Codes, Laws}
 use Rattle.fields.specs.Elements.{elements, zero_below}
 use Rattle.fields.specs.ElementsLemmas.{numbers, zero_code, mul_code}
-use Rattle.scheme.specs.Polynomial.{value_at_lem}
+use Rattle.scheme.specs.Polynomial.{polynomial_value}
 use Rattle.scheme.proofs.Enumerated.{CodesOf}
 use Rattle.scheme.proofs.Fitted.{value_code}
 
@@ -58,23 +58,23 @@ module _ {C : Codes} (L : Laws C) where
   low_injective (a ∷ f) (b ∷ g) e =
       let h : a.0 ≡ b.0 = cc in let t : low f ≡ low g = cc in ap₂ ◌∷◌ (same_code a b h) (low_injective f g t)
 
-  eval_lift : (g : List ℕ) (h : AllByRecursion (λ a. a < C.size) g) (x : Code) → (eval K (lift g h) x).0 ≡ value_at_lem C g x.0
-  eval_lift g h x = sym (value_code (numbers L) (lift g h) x) ∙ ap (λ l. value_at_lem C l x.0) (low_lift g h)
+  eval_lift : (g : List ℕ) (h : AllByRecursion (λ a. a < C.size) g) (x : Code) → (eval K (lift g h) x).0 ≡ polynomial_value C g x.0
+  eval_lift g h x = sym (value_code (numbers L) (lift g h) x) ∙ ap (λ l. polynomial_value C l x.0) (low_lift g h)
 
   -- ---- values
 
-  pub value_below : (g : List ℕ) (x : ℕ) → AllByRecursion (λ a. a < C.size) g → x < C.size → value_at_lem C g x < C.size
+  pub value_below : (g : List ℕ) (x : ℕ) → AllByRecursion (λ a. a < C.size) g → x < C.size → polynomial_value C g x < C.size
   value_below [] x h k = zero_below L
   value_below (c ∷ g) x h k = L.sum_below _ _ h.0 (L.product_below _ _ k (value_below g x h.1 k))
 
   -- the value at zero is the lowest coefficient
-  pub value_at_zero : (a : ℕ) (g : List ℕ) → a < C.size → AllByRecursion (λ c. c < C.size) g → value_at_lem C (a ∷ g) 0 ≡ a
+  pub value_at_zero : (a : ℕ) (g : List ℕ) → a < C.size → AllByRecursion (λ c. c < C.size) g → polynomial_value C (a ∷ g) 0 ≡ a
   value_at_zero a g h k = ap (C.sum a) zero_times ∙ L.sum_zero a h
     where
       y : Code
-      y = (value_at_lem C g 0, value_below g 0 k (zero_below L))
+      y = (polynomial_value C g 0, value_below g 0 k (zero_below L))
 
-      zero_times : C.product 0 (value_at_lem C g 0) ≡ 0
+      zero_times : C.product 0 (polynomial_value C g 0) ≡ 0
       zero_times =
           ap (λ z. C.product z y.0) (sym (zero_code (numbers L))) ∙ sym (mul_code (numbers L) K.zero y)
           ∙ ap (λ (z : Code). z.0) (zero_mul K y) ∙ zero_code (numbers L)
@@ -91,13 +91,13 @@ module _ {C : Codes} (L : Laws C) where
   apart_lift (y ∷ ys) b d = (apart_from y b.0 ys b.1 d.0, apart_lift ys b.1 d.1)
 
   pub same_polynomial : (s : ℕ) (f g xs : List ℕ) → CodesOf C.size s f → CodesOf C.size s g → Distinct xs
-      → AllByRecursion (λ x. x < C.size) xs → s ≤ length xs → AllByRecursion (λ x. value_at_lem C f x ≡ value_at_lem C g x) xs → f ≡ g
+      → AllByRecursion (λ x. x < C.size) xs → s ≤ length xs → AllByRecursion (λ x. polynomial_value C f x ≡ polynomial_value C g x) xs → f ≡ g
   same_polynomial s f g xs hf hg d b n h =
       sym (low_lift f hf.1) ∙ ap low (same_list K (λ a. a) (lift xs b) (lift f hf.1) (lift g hg.1) (apart_lift xs b d)
       (length_lift f hf.1 ∙ hf.0 ∙ sym hg.0 ∙ sym (length_lift g hg.1))
       (omega (arith, length_lift f hf.1, length_lift xs b, hf.0)) (agree xs b h)) ∙ low_lift g hg.1
     where
-      agree : (ys : List ℕ) (b : AllByRecursion (λ y. y < C.size) ys) → AllByRecursion (λ y. value_at_lem C f y ≡ value_at_lem C g y) ys
+      agree : (ys : List ℕ) (b : AllByRecursion (λ y. y < C.size) ys) → AllByRecursion (λ y. polynomial_value C f y ≡ polynomial_value C g y) ys
           → AllByRecursion (λ (y : Code). eval K (lift f hf.1) y ≡ eval K (lift g hg.1) y) (lift ys b)
       agree [] b h = tt
       agree (y ∷ ys) b h =
@@ -109,7 +109,7 @@ module _ {C : Codes} (L : Laws C) where
   InField points = AllByRecursion (λ (p : ℕ × ℕ). (p.0 < C.size) × (p.1 < C.size)) points
 
   abbrev pub Passing : List (ℕ × ℕ) → List ℕ → Type 0
-  Passing points g = AllByRecursion (λ (p : ℕ × ℕ). value_at_lem C g p.0 ≡ p.1) points
+  Passing points g = AllByRecursion (λ (p : ℕ × ℕ). polynomial_value C g p.0 ≡ p.1) points
 
   abbrev lift_points : (points : List (ℕ × ℕ)) → InField points → List (Code × Code)
   lift_points [] h = []

@@ -9,12 +9,12 @@ use Rattle.std.proofs.lemmas.Bool.{eq-eqb, lt-ltb, cond-true}
 use Rattle.algebra.proofs.Counting.{all_with, all_from_in, in_map_back}
 use Rattle.fields.specs.Doubled.{doubled, join}
 use Rattle.fields.specs.DoubledLaws.{doubled_laws}
-use Rattle.scheme.specs.Polynomial.{value_at_lem}
+use Rattle.scheme.specs.Polynomial.{polynomial_value}
 use Rattle.scheme.specs.Dealing.{at_place, places, value_polynomial, tag_polynomial, dealt_pair}
 use Rattle.scheme.specs.declared.types.Pair.{Pair}
 use Rattle.scheme.proofs.Acceptance.{Accepted, accepted}
 use Rattle.scheme.proofs.Enumerated.{CodesOf}
-use Rattle.runs.specs.Cards.{blank, Card, is_coded_lem, is_participant, present_refusal}
+use Rattle.runs.specs.Cards.{blank, Card, is_coded_pair, is_participant, present_refusal}
 use Rattle.runs.specs.Opening.{pair_at}
 use Rattle.runs.specs.Law.{Deal, Choice, q, dealt_card, dealt_choice, card_under, Deals}
 use Rattle.runs.proofs.Bridge.{value_below, value_at_zero}
@@ -54,15 +54,15 @@ module _ (D : Deal) where
       let r = value_coefficients j l in
       let one : 1 ≤ figures.k = figures.threshold.0 in (omega (arith, r.0), (key_below j l, r.1))
 
-  pub dealt_value_below : (i j : ℕ) → is_participant codes figures i ≡ true → j < figures.d → value_at_lem codes (value_polynomials j) i < codes.size
+  pub dealt_value_below : (i j : ℕ) → is_participant codes figures i ≡ true → j < figures.d → polynomial_value codes (value_polynomials j) i < codes.size
   dealt_value_below i j m l =
       value_below laws.on_codes (value_polynomials j) i (value_polynomials_codes j l).1
       (small laws figures i (participant_high codes figures i m))
 
   -- the values at zero are the key
-  pub key_is : map (λ j. value_at_lem codes (value_polynomials j) 0) (places figures) ≡ key
+  pub key_is : map (λ j. polynomial_value codes (value_polynomials j) 0) (places figures) ≡ key
   key_is =
-      sym (fill_by_all (λ j. value_at_lem codes (value_polynomials j) 0) key figures.d 0 facts.key_length
+      sym (fill_by_all (λ j. polynomial_value codes (value_polynomials j) 0) key figures.d 0 facts.key_length
       (λ j l. sym (value_at_zero laws.on_codes (get_or key j 0) _ (key_below j l) (value_coefficients j l).1)))
 
   -- ---- tag polynomials
@@ -103,21 +103,21 @@ module _ (D : Deal) where
     card_pair : (j : ℕ) → j < figures.d → pair_at (card_under D c i) j ≡ dealt_pair codes u v (value_polynomials j) (get_or c j []) i
     card_pair j l = get_or-map-range_with_len (λ j. dealt_pair codes u v (value_polynomials j) (get_or c j []) i) 0 figures.d j j blank l (zero-add j)
 
-    pub card_value : (j : ℕ) → j < figures.d → (pair_at (card_under D c i) j).value ≡ value_at_lem codes (value_polynomials j) i
+    pub card_value : (j : ℕ) → j < figures.d → (pair_at (card_under D c i) j).value ≡ polynomial_value codes (value_polynomials j) i
     card_value j l = ap (λ (a : Pair). a.value) (card_pair j l)
 
     pub card_tag : (j : ℕ) → j < figures.d
-        → (pair_at (card_under D c i) j).tag ≡ value_at_lem (doubled codes u v) (get_or c j [])
-        (join codes.size (value_at_lem codes (value_polynomials j) i) i)
+        → (pair_at (card_under D c i) j).tag ≡ polynomial_value (doubled codes u v) (get_or c j [])
+        (join codes.size (polynomial_value codes (value_polynomials j) i) i)
     card_tag j l = ap (λ (a : Pair). a.tag) (card_pair j l)
 
-    card_coded : Sound c → is_participant codes figures i ≡ true → list_all (is_coded_lem codes) (card_under D c i) ≡ true
+    card_coded : Sound c → is_participant codes figures i ≡ true → list_all (is_coded_pair codes) (card_under D c i) ≡ true
     card_coded s m =
-        every_from (is_coded_lem codes) (card_under D c i) (λ a k.
+        every_from (is_coded_pair codes) (card_under D c i) (λ a k.
         let r = in_map_back (λ j. dealt_pair codes u v (value_polynomials j) (get_or c j []) i) (places figures) a k in
         let l = place_below figures.d r.0 r.1 in
         let w = dealt_value_below i r.0 m l in
-        subst (λ (a : Pair). is_coded_lem codes a ≡ true) (sym r.2) (ap₂ ◌&&◌ (lt-ltb _ _ w)
+        subst (λ (a : Pair). is_coded_pair codes a ≡ true) (sym r.2) (ap₂ ◌&&◌ (lt-ltb _ _ w)
         (lt-ltb _ _ (value_below (doubled_laws laws) (get_or c r.0 []) _ (s r.0 l).1
         (point_below laws figures i _ (participant_high codes figures i m) w)))))
 

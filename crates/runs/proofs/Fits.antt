@@ -9,7 +9,7 @@ use Rattle.algebra.specs.Polynomial.{Apart}
 use Rattle.algebra.specs.Count.{In}
 use Rattle.algebra.proofs.Counting.{all_from_in}
 use Rattle.fields.specs.Laws.{Codes, Laws}
-use Rattle.scheme.specs.Polynomial.{value_at_lem}
+use Rattle.scheme.specs.Polynomial.{polynomial_value}
 use Rattle.scheme.specs.Fitting.{polynomials, passes, agreements, fits, fitting}
 use Rattle.scheme.proofs.Enumerated.{kept_one, CodesOf, polynomials_in, polynomials_are, polynomials_apart}
 use Rattle.runs.proofs.Bridge.{same_polynomial}
@@ -27,7 +27,7 @@ plane_kept {points = points} test h =
 module _ {C : Codes} (L : Laws C) where
   -- polynomials of s coefficients that agree at s points, or more, are equal
   pub same_on : (points : List (ℕ × ℕ)) → Plane C points → (s : ℕ) (f g : List ℕ) → CodesOf C.size s f → CodesOf C.size s g
-      → s ≤ length points → ((p : ℕ × ℕ) → In p points → value_at_lem C f p.0 ≡ value_at_lem C g p.0) → f ≡ g
+      → s ≤ length points → ((p : ℕ × ℕ) → In p points → polynomial_value C f p.0 ≡ polynomial_value C g p.0) → f ≡ g
   same_on points h s f g hf hg many same =
       same_polynomial L s f g (map (λ p. p.0) points) hf hg
       (distinct_images (λ p. p.0) points h.apart)

@@ -10,7 +10,7 @@ use Rattle.std.proofs.lemmas.Option.{same_Some}
 use Rattle.algebra.specs.Count.{In}
 use Rattle.algebra.proofs.Counting.{all_from_in, in_map, in_map_back, at_most}
 use Rattle.fields.specs.Doubled.{doubled, join}
-use Rattle.scheme.specs.Polynomial.{value_at_lem}
+use Rattle.scheme.specs.Polynomial.{polynomial_value}
 use Rattle.scheme.specs.Dealing.{places}
 use Rattle.runs.specs.Cards.{Card, Cards, lying}
 use Rattle.runs.specs.Opening.{pair_at, FirstThree}
@@ -41,9 +41,9 @@ module _ (D : Deal) (c : Choice) where
 
     -- beside a value as dealt, the right tag is the one as dealt
     right_tag : (j : ℕ) → j < figures.d → value_altered dealt x j ≡ false
-        → value_at_lem (doubled codes u v) (get_or c j []) (join codes.size (pair_at x j).value i) ≡ (pair_at dealt j).tag
+        → polynomial_value (doubled codes u v) (get_or c j []) (join codes.size (pair_at x j).value i) ≡ (pair_at dealt j).tag
     right_tag j l e =
-        ap (λ w. value_at_lem (doubled codes u v) (get_or c j []) (join codes.size w i)) (eqb-true _ _ (not-false _ e) ∙ card_value D c i j l)
+        ap (λ w. polynomial_value (doubled codes u v) (get_or c j []) (join codes.size w i)) (eqb-true _ _ (not-false _ e) ∙ card_value D c i j l)
         ∙ sym (card_tag D c i j l)
 
     pub dealt_tag_right : (j : ℕ) → j < figures.d → value_altered dealt x j ≡ false → tag_altered dealt x j ≡ false → tag_right j (i, x) ≡ true

@@ -16,14 +16,14 @@ use Rattle.fields.specs.Doubled.{doubled, join}
 use Rattle.fields.specs.Elements.{zero_below}
 use Rattle.fields.specs.DoubledLaws.{doubled_laws, join_low, join_high, join_below}
 use Rattle.scheme.specs.Questions.{first_no}
-use Rattle.scheme.specs.Polynomial.{value_at_lem}
+use Rattle.scheme.specs.Polynomial.{polynomial_value}
 use Rattle.scheme.specs.Fitting.{polynomials, passes, agreements}
 use Rattle.scheme.specs.Dealing.{places}
 use Rattle.scheme.specs.declared.types.Figures.{Figures}
 use Rattle.scheme.specs.declared.types.Pair.{Pair}
 use Rattle.scheme.proofs.Asking.{all_from_every}
 use Rattle.scheme.proofs.Enumerated.{kept_none, CodesOf, polynomials_are}
-use Rattle.runs.specs.Cards.{blank, Card, Cards, lying, is_coded_lem}
+use Rattle.runs.specs.Cards.{blank, Card, Cards, lying, is_coded_pair}
 use Rattle.runs.specs.Opening.{Opening, pair_at, tag_point, value_point, fitting_at, is_named, named, unnamed, value_curves, early_questions, late_questions, new_key, concluded, opened, FirstThree}
 use Rattle.runs.specs.Runs.{written}
 use Rattle.runs.proofs.Lists.{every_from, kept_in, apart_kept, kept_map, some_same, map_same, place_below, every_in, not_every, in_places}
@@ -63,13 +63,13 @@ module _ {C : Codes} {u v : ℕ} (L : DoublableLaws C u v) (f : Figures) where
   pub small : (i : ℕ) → i ≤ f.n → i < C.size
   small i h = let l : 33 ≤ C.size = L.on_codes.at_least_33 in let m : f.n ≤ 32 = f.participants.1 in omega arith
 
-  pub pair_below : (card : Card) → list_all (is_coded_lem C) card ≡ true → (j : ℕ) → j < length card
+  pub pair_below : (card : Card) → list_all (is_coded_pair C) card ≡ true → (j : ℕ) → j < length card
       → ((pair_at card j).value < C.size) × ((pair_at card j).tag < C.size * C.size)
   pair_below card e j h =
-      let r = and_parts _ _ (All-get_or (λ (a : Pair). is_coded_lem C a ≡ true) card j blank h (all_from_every (is_coded_lem C) _ (λ a t. t) card e)) in
+      let r = and_parts _ _ (All-get_or (λ (a : Pair). is_coded_pair C a ≡ true) card j blank h (all_from_every (is_coded_pair C) _ (λ a t. t) card e)) in
       (ltb-true _ _ r.0, ltb-true _ _ r.1)
 
-  pub pair_value_below : (card : Card) → list_all (is_coded_lem C) card ≡ true → (j : ℕ) → (pair_at card j).value < C.size
+  pub pair_value_below : (card : Card) → list_all (is_coded_pair C) card ≡ true → (j : ℕ) → (pair_at card j).value < C.size
   pair_value_below card e j = grind (arith, pair_below card e j, get_or_past card j blank, zero_below L.on_codes)
 
   -- the abscissa value + i·y tells the value and i
@@ -211,7 +211,7 @@ module _ {C : Codes} {u v : ℕ} (L : DoublableLaws C u v) (f : Figures) where
                   ∙ kept_none _ (polynomials C.size f.k) (λ g k. off g (polynomials_are _ _ g k))
 
           module _ (F : ℕ → List ℕ) (goodF : (j : ℕ) → j < f.d → CodesOf C.size f.k (F j))
-              (on : (a : ℕ × Card) → In a (lying cards) → misses C u v f G a ≡ false → (j : ℕ) → j < f.d → value_at_lem C (F j) a.0 ≡ (pair_at
+              (on : (a : ℕ × Card) → In a (lying cards) → misses C u v f G a ≡ false → (j : ℕ) → j < f.d → polynomial_value C (F j) a.0 ≡ (pair_at
               a.1 j).value)
               (many : f.k ≤ length clean) where
             curves_are : (j : ℕ) → j < f.d → value_curves C u v f cards j ≡ F j ∷ []
@@ -225,7 +225,7 @@ module _ {C : Codes} {u v : ℕ} (L : DoublableLaws C u v) (f : Figures) where
                 subst (λ p. passes C (F j) p ≡ true) (sym r.2) (eq-eqb _ _ (on r.0 s.0 (not-true (misses C u v f G r.0) s.1) j h))))
 
             pub many_clean : opened C u v f cards key names
-                ≡ opening_to (length (lying cards)) missing (map (λ j. value_at_lem C (F j) 0) (places f)) names
+                ≡ opening_to (length (lying cards)) missing (map (λ j. polynomial_value C (F j) 0) (places f)) names
             many_clean =
                 ap₂ (λ o p. concluded C u v f cards o p key names) no_early late
                 ∙ ap₂ (λ l k. opening_to (length (lying cards)) l k names) named_numbers key_is
@@ -241,5 +241,5 @@ module _ {C : Codes} {u v : ℕ} (L : DoublableLaws C u v) (f : Figures) where
                       ),
                     )
 
-                key_is : new_key C u v f cards ≡ map (λ j. value_at_lem C (F j) 0) (places f)
-                key_is = map_same _ _ (places f) (λ j k. ap (λ g. value_at_lem C (get_or g 0 []) 0) (curves_are j (place_below f.d j k)))
+                key_is : new_key C u v f cards ≡ map (λ j. polynomial_value C (F j) 0) (places f)
+                key_is = map_same _ _ (places f) (λ j k. ap (λ g. polynomial_value C (get_or g 0 []) 0) (curves_are j (place_below f.d j k)))

@@ -12,7 +12,7 @@ use Rattle.fields.specs.Doubled.{doubled, sum2, product2}
 use Rattle.fields.specs.DoubledLaws.{doubled_laws}
 use Rattle.fields.specs.P251Laws.{p251_doublable}
 use Rattle.scheme.specs.Questions.{all_codes}
-use Rattle.scheme.specs.Polynomial.{value_at_lem}
+use Rattle.scheme.specs.Polynomial.{polynomial_value}
 use Rattle.scheme.specs.Fitting.{passes, fits, polynomials}
 use Rattle.scheme.proofs.Asking.{all_from_codes}
 use Rattle.scheme.proofs.Enumerated.{CodesOf, kept_none, polynomials_are}
@@ -60,17 +60,17 @@ module _ (cards : Cards) (passing : AllByRecursion (λ (a : ℕ × Card). card_r
   too_few few = few_clean p251_doublable five cards right (leb-true _ _ four) tag_polynomials good most key names first (leb-false _ _ few)
 
   module _ (h : List ℕ) (long : length h ≡ 4) (codes : all_codes 251 h ≡ true) (enough : leb 4 (length clean) ≡ true) where
-    on_one : list_all (λ (a : ℕ × Card). strays a || eqb (value_at_lem p251 h a.0) (pair_at a.1 0).value) (lying cards) ≡ true
+    on_one : list_all (λ (a : ℕ × Card). strays a || eqb (polynomial_value p251 h a.0) (pair_at a.1 0).value) (lying cards) ≡ true
         → opened p251 0 250 five cards key names
-        ≡ opening_to (length (lying cards)) named (value_at_lem p251 h 0 ∷ []) names
+        ≡ opening_to (length (lying cards)) named (polynomial_value p251 h 0 ∷ []) names
     on_one on =
         many_clean p251_doublable five cards right (leb-true _ _ four) tag_polynomials good most key names first (λ _. h)
         (λ j l. (long, all_from_codes 251 h codes)) honest (leb-true _ _ enough)
       where
-        honest : (a : ℕ × Card) → In a (lying cards) → strays a ≡ false → (j : ℕ) → j < 1 → value_at_lem p251 h a.0 ≡ (pair_at a.1 j).value
+        honest : (a : ℕ × Card) → In a (lying cards) → strays a ≡ false → (j : ℕ) → j < 1 → polynomial_value p251 h a.0 ≡ (pair_at a.1 j).value
         honest a k e zero l =
-            let on_a = every_in (λ (a : ℕ × Card). strays a || eqb (value_at_lem p251 h a.0) (pair_at a.1 0).value) (lying cards) a on k in
-            eqb-true _ _ (sym (ap (λ b. b || eqb (value_at_lem p251 h a.0) (pair_at a.1 0).value) e) ∙ on_a)
+            let on_a = every_in (λ (a : ℕ × Card). strays a || eqb (polynomial_value p251 h a.0) (pair_at a.1 0).value) (lying cards) a on k in
+            eqb-true _ _ (sym (ap (λ b. b || eqb (polynomial_value p251 h a.0) (pair_at a.1 0).value) e) ∙ on_a)
         honest a k e (suc j) l = absurd (omega arith)
 
     on_none : leb 4 (length (filter (passes p251 h) (map (value_point 0) clean))) ≡ true → list_all (passes p251 h) (map (value_point 0) clean) ≡ false

@@ -11,7 +11,7 @@ use Rattle.scheme.specs.Dealing.{participants}
 use Rattle.scheme.specs.declared.types.Figures.{Figures}
 use Rattle.scheme.proofs.Acceptance.{all_yes, no_refusal}
 use Rattle.scheme.proofs.Enumerated.{in_counting, counting_in}
-use Rattle.runs.specs.Cards.{Card, Cards, card_of, lying, is_coded_lem, is_participant, card_questions, card_refusal, present_refusal, withdraw_refusal, settled}
+use Rattle.runs.specs.Cards.{Card, Cards, card_of, lying, is_coded_pair, is_participant, card_questions, card_refusal, present_refusal, withdraw_refusal, settled}
 use Rattle.runs.specs.Runs.{Run, start, ◌then◌, Call, present, withdraw, seal, reopen, opens, table, present_accepted, lies, numbers_lying}
 use Rattle.runs.proofs.Collected.{number, collect, in_collect, collect_in, collect_same, numbers_collected, lying_is}
 
@@ -32,7 +32,7 @@ module _ (C : Codes) (f : Figures) where
 
   -- what the questions about a card settle
   abbrev pub RightCard : ℕ → Card → Type 0
-  RightCard i card = (is_participant C f i ≡ true) × (length card ≡ f.d) × (list_all (is_coded_lem C) card ≡ true)
+  RightCard i card = (is_participant C f i ≡ true) × (length card ≡ f.d) × (list_all (is_coded_pair C) card ≡ true)
 
   pub right_card : (i : ℕ) (card : Card) → card_refusal C f i card ≡ None → RightCard i card
   right_card i card e = let yes = all_yes (card_questions C f i card) e in (yes.0, eqb-true _ _ yes.1.0, yes.1.1.0)
@@ -63,7 +63,7 @@ module _ (C : Codes) (f : Figures) where
       → present_refusal C f x i card ≡ present_refusal C f y i card
   present_where x y i card h =
       where_participant i _ _
-      (λ n. ap (λ o. first_no ((eqb (length card) f.d, 42) ∷ (list_all (is_coded_lem C) card, 43) ∷ (not (is_some o), 44) ∷ [])) (h n))
+      (λ n. ap (λ o. first_no ((eqb (length card) f.d, 42) ∷ (list_all (is_coded_pair C) card, 43) ∷ (not (is_some o), 44) ∷ [])) (h n))
 
   withdraw_where : (x y : Option Card) (i : ℕ) → (is_participant C f i ≡ true → x ≡ y) → withdraw_refusal C f x i ≡ withdraw_refusal C f y i
   withdraw_where x y i h = where_participant i _ _ (λ n. ap (λ o. first_no ((is_some o, 45) ∷ [])) (h n))

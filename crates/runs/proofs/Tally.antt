@@ -12,7 +12,7 @@ use Rattle.algebra.specs.Count.{In, Exactly, AtEach}
 use Rattle.algebra.proofs.Counting.{all_in, all_from_in, in_self, exactly_iff, exactly_each, pow_one, product_same, product_free, free, free_kept}
 use Rattle.fields.specs.Doubled.{doubled, join}
 use Rattle.fields.specs.DoubledLaws.{doubled_laws}
-use Rattle.scheme.specs.Polynomial.{value_at_lem}
+use Rattle.scheme.specs.Polynomial.{polynomial_value}
 use Rattle.scheme.specs.Dealing.{places}
 use Rattle.scheme.proofs.Enumerated.{CodesOf}
 use Rattle.runs.specs.Cards.{Card, is_participant}
@@ -68,14 +68,14 @@ module _ (D : Deal) (group : List ℕ) (grp : Group D.figures group) where
   -- ---- the points of the group at place j
 
   abbrev abscissa : ℕ → ℕ → ℕ
-  abscissa j i = join codes.size (value_at_lem codes (value_polynomials D j) i) i
+  abscissa j i = join codes.size (polynomial_value codes (value_polynomials D j) i) i
 
   abbrev point : ℕ → ℕ → ℕ × ℕ
-  point j i = (abscissa j i, value_at_lem (doubled codes u v) (get_or (dealt_choice D) j []) (abscissa j i))
+  point j i = (abscissa j i, polynomial_value (doubled codes u v) (get_or (dealt_choice D) j []) (abscissa j i))
 
   -- g has t + 1 coefficients and passes through them
   abbrev Keeps : ℕ → List ℕ → Type 0
-  Keeps j g = CodesOf (q D) (figures.t + 1) g × AllByRecursion (λ i. value_at_lem (doubled codes u v) g (abscissa j i) ≡ (point j i).1) group
+  Keeps j g = CodesOf (q D) (figures.t + 1) g × AllByRecursion (λ i. polynomial_value (doubled codes u v) g (abscissa j i) ≡ (point j i).1) group
 
   deals_keeps : (c : Choice) → Deals D group c → AtEach Keeps (places figures) c
   deals_keeps c h =
@@ -93,7 +93,7 @@ module _ (D : Deal) (group : List ℕ) (grp : Group D.figures group) where
     each_place = each_length Keeps (places figures) c h ∙ length-range_with_len 0 figures.d;
     degrees = each_all _ Keeps (places figures) c (λ j g k. k.0) h;
     same_cards = all_from_in group (λ i m. map_same _ _ (places figures) (λ j k.
-        ap (λ (w : ℕ). record { value = value_at_lem codes (value_polynomials D j) i; tag = w })
+        ap (λ (w : ℕ). record { value = polynomial_value codes (value_polynomials D j) i; tag = w })
         (all_in _ group i (keeps_at Keeps c h j (place_below figures.d j k)).1 m)));
   }
 
@@ -125,11 +125,11 @@ module _ (D : Deal) (group : List ℕ) (grp : Group D.figures group) where
   -- that a polynomial of m coefficients passes through the points, in other words
   through_keeps : (j m : ℕ) → m ≡ figures.t + 1 → (g : List ℕ) → CodesOf (q D) m g × Passing (doubled_laws laws) (map (point j) group) g → Keeps j g
   through_keeps j m e g h =
-      ((h.0.0 ∙ e, h.0.1), all_unmap (λ (p : ℕ × ℕ). value_at_lem (doubled codes u v) g p.0 ≡ p.1) (point j) group h.1)
+      ((h.0.0 ∙ e, h.0.1), all_unmap (λ (p : ℕ × ℕ). polynomial_value (doubled codes u v) g p.0 ≡ p.1) (point j) group h.1)
 
   keeps_through : (j m : ℕ) → m ≡ figures.t + 1 → (g : List ℕ) → Keeps j g → CodesOf (q D) m g × Passing (doubled_laws laws) (map (point j) group) g
   keeps_through j m e g h =
-      ((h.0.0 ∙ sym e, h.0.1), All-map (λ (p : ℕ × ℕ). value_at_lem (doubled codes u v) g p.0 ≡ p.1) (point j) group h.1)
+      ((h.0.0 ∙ sym e, h.0.1), All-map (λ (p : ℕ × ℕ). polynomial_value (doubled codes u v) g p.0 ≡ p.1) (point j) group h.1)
 
   keeps_count : (j : ℕ) → j < figures.d → Exactly (q D) (Keeps j)
   keeps_count j l =
@@ -152,7 +152,7 @@ module _ (D : Deal) (group : List ℕ) (grp : Group D.figures group) where
 
     -- g passes through the card's point too
     abbrev Deceived : ℕ → List ℕ → Type 0
-    Deceived j g = Keeps j g × (value_at_lem (doubled codes u v) g (join codes.size (pair_at x j).value i) ≡ (pair_at x j).tag)
+    Deceived j g = Keeps j g × (polynomial_value (doubled codes u v) g (join codes.size (pair_at x j).value i) ≡ (pair_at x j).tag)
 
     stays_deceived : (c : Choice) → Deals D group c → strays D c (i, x) ≡ false → AtEach Deceived (places figures) c
     stays_deceived c h e =
@@ -175,7 +175,7 @@ module _ (D : Deal) (group : List ℕ) (grp : Group D.figures group) where
           exactly_iff
           (λ g h. (
             h,
-            ap (λ w. value_at_lem (doubled codes u v) g (join codes.size w i)) (eqb-true _ _ (not-false _ e) ∙ card_value D (dealt_choice D) i j l)
+            ap (λ w. polynomial_value (doubled codes u v) g (join codes.size w i)) (eqb-true _ _ (not-false _ e) ∙ card_value D (dealt_choice D) i j l)
                 ∙ all_in _ group i h.1 m ∙ sym (card_tag D (dealt_choice D) i j l) ∙ sym (eqb-true _ _ (not-false _ (elsewhere j l e))),
           ))
           (λ g h. h.0) (keeps_count j l)
@@ -190,7 +190,7 @@ module _ (D : Deal) (group : List ℕ) (grp : Group D.figures group) where
           All-map _ (point j) group (all_from_in group (λ h k s.
           let below = dealt_value_below D h j (member h k) l in
           eqb-false _ _ (not-true _ e) (sym (point_value laws figures h i _ _ below here.0 s)
-          ∙ ap (value_at_lem codes (value_polynomials D j)) (point_number laws figures h i _ _ below here.0 s) ∙ sym
+          ∙ ap (polynomial_value codes (value_polynomials D j)) (point_number laws figures h i _ _ below here.0 s) ∙ sym
           (card_value D (dealt_choice D) i j l)))) in
           let long : 0 + suc (length (map (point j) group)) ≡ figures.t + 1 = omega (arith, points_length j) in
           subst (λ w. Exactly w (Deceived j)) (pow-zero (q D))

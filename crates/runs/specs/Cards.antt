@@ -33,8 +33,8 @@ abbrev pub lying : Cards → List (ℕ × Card)
 lying cards = lying_from 1 cards
 
 -- over the field C, the value is the code of an element and the tag that of an element of the doubled field
-abbrev pub is_coded_lem : Codes → Pair → Bool
-is_coded_lem C pair = nat_lt pair.value C.size && nat_lt pair.tag (C.size * C.size)
+abbrev pub is_coded_pair : Codes → Pair → Bool
+is_coded_pair C pair = nat_lt pair.value C.size && nat_lt pair.tag (C.size * C.size)
 
 -- over the field C, for figures f
 module _ (C : Codes) (f : Figures) where
@@ -47,7 +47,7 @@ module _ (C : Codes) (f : Figures) where
 
   -- the questions about a card that is said to be participant i's
   abbrev pub card_questions : ℕ → Card → List (Bool × ℕ)
-  card_questions i card = (is_participant i, 41) ∷ ((length card == f.d), 42) ∷ (list_all (is_coded_lem C) card, 43) ∷ []
+  card_questions i card = (is_participant i, 41) ∷ ((length card == f.d), 42) ∷ (list_all (is_coded_pair C) card, 43) ∷ []
 
   abbrev pub card_refusal : ℕ → Card → Option ℕ
   card_refusal i card = first_no (card_questions i card)

@@ -6,7 +6,7 @@ use Rattle.std.specs.List.{list_all, list_any}
 use Rattle.fields.specs.Laws.{Codes}
 use Rattle.fields.specs.Doubled.{doubled, join}
 use Rattle.scheme.specs.Questions.{first_no}
-use Rattle.scheme.specs.Polynomial.{value_at_lem}
+use Rattle.scheme.specs.Polynomial.{polynomial_value}
 use Rattle.scheme.specs.Fitting.{polynomials, passes, fitting}
 use Rattle.scheme.specs.Dealing.{places}
 use Rattle.scheme.specs.declared.types.Figures.{Figures}
@@ -73,7 +73,7 @@ module _ (C : Codes) (u v : ℕ) (f : Figures) (cards : Cards) where
 
   -- each symbol of the key is the value at zero of the polynomial that the unnamed values lie on
   abbrev pub new_key : List ℕ
-  new_key = map (λ j. value_at_lem C (slice_index_or (value_curves j) 0 []) 0) (places f)
+  new_key = map (λ j. polynomial_value C (slice_index_or (value_curves j) 0 []) 0) (places f)
 
   -- the names at the front, and 0 in every place behind them
   abbrev pub new_names : List ℕ → List ℕ

@@ -16,7 +16,7 @@ use Rattle.algebra.proofs.Candidate.{fit_is_answer, length_down, took, took_righ
 use Rattle.fields.specs.Laws.{Codes, FieldLaws}
 use Rattle.fields.specs.Elements.{elements}
 use Rattle.fields.specs.ElementsLemmas.{zero_code, add_code, mul_code}
-use Rattle.scheme.specs.Polynomial.{value_at_lem}
+use Rattle.scheme.specs.Polynomial.{polynomial_value}
 use Rattle.scheme.specs.Fitting.{polynomials, distinct, passes, fits, fitting, through}
 use Rattle.scheme.specs.Held.{abscissae, ordinates, point_codes}
 use Rattle.scheme.specs.declared.types.Point.{Point}
@@ -81,14 +81,14 @@ module _ {E : Type 0} {C : Codes} {code : E → ℕ} (L : FieldLaws E C code) wh
 
   -- ---- polynomials of elements and of codes
 
-  pub value_code : (f : List E) (x : E) → value_at_lem C (map code f) (code x) ≡ code (eval X f x)
+  pub value_code : (f : List E) (x : E) → polynomial_value C (map code f) (code x) ≡ code (eval X f x)
   value_code [] x = sym (zero_code L)
   value_code (c ∷ f) x =
       ap (λ v. C.sum (code c) (C.product (code x) v)) (value_code f x)
       ∙ sym (add_code L c (X.mul x (eval X f x)) ∙ ap (C.sum (code c)) (mul_code L x (eval X f x)))
 
   -- an element with the code of the value is the value
-  pub value_is : (f : List E) (x r : E) → code r ≡ value_at_lem C (map code f) (code x) → r ≡ eval X f x
+  pub value_is : (f : List E) (x r : E) → code r ≡ polynomial_value C (map code f) (code x) → r ≡ eval X f x
   value_is f x r e = L.code_injective _ _ (e ∙ value_code f x)
 
   codes_below : (f : List E) → AllByRecursion (λ a. a < C.size) (map code f)

@@ -4,12 +4,12 @@ use Rattle.std.proofs.Common.{◌≡◌, ℕ, ◌+◌, ◌<◌, ◌≤◌, lengt
 use Rattle.algebra.specs.Polynomial.{eval}
 use Rattle.algebra.specs.Field.{Field}
 use Rattle.algebra.specs.Decoder as algebra
-use Rattle.algebra.specs.Decoder.{add_multiple_lem, discrepancy, raise, step}
+use Rattle.algebra.specs.Decoder.{plus_multiple, discrepancy, raise, step}
 use Rattle.algebra.proofs.Moves.{step_a, step_b, step_less, step_more}
 use Rattle.fields.specs.Laws.{Codes, FieldLaws}
 use Rattle.fields.specs.Elements.{elements}
 use Rattle.fields.specs.ElementsLemmas.{add_is, inv_is, mul_is, mul_code, neg_is, neg_code, zero_code, zero_is}
-use Rattle.scheme.specs.Polynomial.{value_at_lem}
+use Rattle.scheme.specs.Polynomial.{polynomial_value}
 use Rattle.scheme.specs.Held.{polynomial_told, ratio, state}
 use Rattle.scheme.specs.declared.held.Ratio.{Ratio}
 use Rattle.scheme.specs.declared.held.State.{State}
@@ -23,7 +23,7 @@ module _ {E : Type 0} {C : Codes} {code : E → ℕ} (L : FieldLaws E C code) wh
   -- d has the code of the discrepancy of r at the point p
   abbrev pub Told : Ratio E → Point E → E → Type 0
   Told r p d =
-      code d ≡ C.sum (value_at_lem C (polynomial_told code r.top) (code p.x)) (C.negative (C.product (code p.y) (value_at_lem C (polynomial_told code r.bottom) (code p.x))))
+      code d ≡ C.sum (polynomial_value C (polynomial_told code r.top) (code p.x)) (C.negative (C.product (code p.y) (polynomial_value C (polynomial_told code r.bottom) (code p.x))))
 
   told_is : (r : Ratio E) (p : Point E) (d : E) → Told r p d → d ≡ discrepancy X {I = Unit {0}} (λ _. p.x) (λ _. p.y) (ratio X r) tt
   told_is r p d e =
@@ -68,20 +68,20 @@ module _ {E : Type 0} {C : Codes} {code : E → ℕ} (L : FieldLaws E C code) wh
 
     pub first_raised : (code a ≡ 0 → ⊥) → (code b ≡ 0 → ⊥) → length s.first.top < length s.second.bottom + t
         → (k : E) → k ≡ X.neg (X.mul b (X.inv a))
-        → (q r : algebra.Ratio X) → q ≡ raise X p.x (ratio X s.first) → r ≡ add_multiple_lem X (ratio X s.second) k (ratio X s.first)
+        → (q r : algebra.Ratio X) → q ≡ raise X p.x (ratio X s.first) → r ≡ plus_multiple X (ratio X s.second) k (ratio X s.first)
         → record { first = q; second = r } ≡ next
     first_raised na nb l k by q r qe re =
         let factor : k ≡ X.neg (X.mul of_second (X.inv of_first)) =
         by ∙ ap₂ (λ a b. X.neg (X.mul b (X.inv a))) (told_is s.first p a first) (told_is s.second p b second) in
-        ap₂ (λ (q r : algebra.Ratio X). record { first = q; second = r }) qe (re ∙ ap (λ k. add_multiple_lem X (ratio X s.second) k (ratio X s.first)) factor)
+        ap₂ (λ (q r : algebra.Ratio X). record { first = q; second = r }) qe (re ∙ ap (λ k. plus_multiple X (ratio X s.second) k (ratio X s.first)) factor)
         ∙ sym (step_less X p.x p.y t (state X s) (not_first na) (not_second nb) l)
 
     pub second_raised : (code a ≡ 0 → ⊥) → (code b ≡ 0 → ⊥) → length s.second.bottom + t ≤ length s.first.top
         → (k : E) → k ≡ X.neg (X.mul a (X.inv b))
-        → (q r : algebra.Ratio X) → q ≡ add_multiple_lem X (ratio X s.first) k (ratio X s.second) → r ≡ raise X p.x (ratio X s.second)
+        → (q r : algebra.Ratio X) → q ≡ plus_multiple X (ratio X s.first) k (ratio X s.second) → r ≡ raise X p.x (ratio X s.second)
         → record { first = q; second = r } ≡ next
     second_raised na nb l k by q r qe re =
         let factor : k ≡ X.neg (X.mul of_first (X.inv of_second)) =
         by ∙ ap₂ (λ a b. X.neg (X.mul a (X.inv b))) (told_is s.first p a first) (told_is s.second p b second) in
-        ap₂ (λ (q r : algebra.Ratio X). record { first = q; second = r }) (qe ∙ ap (λ k. add_multiple_lem X (ratio X s.first) k (ratio X s.second)) factor) re
+        ap₂ (λ (q r : algebra.Ratio X). record { first = q; second = r }) (qe ∙ ap (λ k. plus_multiple X (ratio X s.first) k (ratio X s.second)) factor) re
         ∙ sym (step_more X p.x p.y t (state X s) (not_first na) (not_second nb) l)

@@ -7,7 +7,7 @@ use Rattle.std.specs.Result.{result_map_both, result_err}
 use Rattle.fields.specs.Laws.{Codes}
 use Rattle.fields.specs.Doubled.{doubled, join}
 use Rattle.scheme.specs.Questions.{first_no, all_codes}
-use Rattle.scheme.specs.Polynomial.{value_at_lem}
+use Rattle.scheme.specs.Polynomial.{polynomial_value}
 use Rattle.scheme.specs.declared.types.Figures.{Figures}
 use Rattle.scheme.specs.declared.types.Pair.{Pair}
 use Rattle.scheme.specs.declared.types.DealFault.{DealFault}
@@ -42,8 +42,8 @@ module _ (C : Codes) (u v : ℕ) where
   -- the value of h over the doubled field at the point value + i·y
   abbrev pub dealt_pair : List ℕ → List ℕ → ℕ → Pair
   dealt_pair g h i =
-      let value = value_at_lem C g i in
-      record { value = value; tag = value_at_lem (doubled C u v) h (join C.size value i) }
+      let value = polynomial_value C g i in
+      record { value = value; tag = polynomial_value (doubled C u v) h (join C.size value i) }
 
   module _ (f : Figures) where
     -- participant i's share, where place j has the polynomials g j and h j

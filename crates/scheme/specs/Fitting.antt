@@ -5,7 +5,7 @@ use Rattle.std.specs.List.{range_with_len, list_all}
 use Rattle.std.specs.Option.{option_map}
 use Rattle.std.specs.Result.{result_map_both}
 use Rattle.fields.specs.Laws.{Codes}
-use Rattle.scheme.specs.Polynomial.{value_at_lem}
+use Rattle.scheme.specs.Polynomial.{polynomial_value}
 use Rattle.scheme.specs.Questions.{first_no, unless}
 use Rattle.scheme.specs.declared.types.PointsFault.{PointsFault}
 use Rattle.scheme.specs.declared.types.PointsFault.TheVariants.{Count, Repeated}
@@ -39,7 +39,7 @@ points_refusal points least = first_no (points_questions points least)
 
 module _ (C : Codes) where
   abbrev pub passes : List ℕ → ℕ × ℕ → Bool
-  passes f p = value_at_lem C f p.0 == p.1
+  passes f p = polynomial_value C f p.0 == p.1
 
   -- through how many of the points f passes
   abbrev pub agreements : List (ℕ × ℕ) → List ℕ → ℕ
@@ -66,7 +66,7 @@ module _ (C : Codes) where
   interpolated points = unless (points_refusal points 1) (first (through points))
 
   abbrev pub value_of : ℕ → Result (Option (List ℕ)) PointsFault → Result (Option ℕ) PointsFault
-  value_of x = result_map_both (option_map (λ f. value_at_lem C f x)) (λ e. e)
+  value_of x = result_map_both (option_map (λ f. polynomial_value C f x)) (λ e. e)
 
   -- what `interpolate_at` answers
   abbrev pub interpolated_at : List (ℕ × ℕ) → ℕ → Result (Option ℕ) PointsFault

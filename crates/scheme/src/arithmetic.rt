@@ -3,7 +3,7 @@ ghost use Rattle.std.specs.Prelude.{◌≡◌, ◌<◌, [], ◌∷◌, ◌++◌,
 ghost use Rattle.algebra.specs.Polynomial.{lin, plus, scale, times_root};
 ghost use Rattle.fields.specs.Elements.{Over};
 ghost use Rattle.scheme.specs.Held.{polynomial_told};
-ghost use Rattle.scheme.specs.Polynomial.{value_at_lem};
+ghost use Rattle.scheme.specs.Polynomial.{polynomial_value};
 
 use crate::held::Polynomial;
 use fields::Field;
@@ -24,7 +24,7 @@ pub(crate) fn horner<F: Field>(value: F::Elem, c: F::Elem, x: F::Elem) -> F::Ele
 
 // The polynomial's value at x.
 pub fn value_at<F: Field>(f: &Polynomial<F::Elem>, x: F::Elem) -> F::Elem
-    ensures { F.code result ≡ value_at_lem F.codes (polynomial_told F.code f.now) (F.code x) }
+    ensures { F.code result ≡ polynomial_value F.codes (polynomial_told F.code f.now) (F.code x) }
 {
     f.as_slice()
         .iter()

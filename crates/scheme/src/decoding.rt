@@ -1,9 +1,9 @@
 // Interpolation and decoding with errors, over any field and without a heap.
 ghost use Rattle.std.specs.Prelude.{◌≡◌, ◌+◌, ◌*◌, ◌<◌, ◌≤◌, [], ◌∷◌, length, if◌then◌else◌, nat_le};
-ghost use Rattle.algebra.specs.Decoder.{add_multiple_lem as addedMultiple, answer, collected, down, extended, offered, place, raise as raised, run as run_of, start as start_of, step as step_of};
+ghost use Rattle.algebra.specs.Decoder.{plus_multiple as addedMultiple, answer, collected, down, extended, offered, place, raise as raised, run as run_of, start as start_of, step as step_of};
 ghost use Rattle.fields.specs.Elements.{Over};
 ghost use Rattle.scheme.specs.Held.{Shorter, abscissae, ordinates, polynomial_told, ratio, state};
-ghost use Rattle.scheme.specs.Polynomial.{value_at_lem};
+ghost use Rattle.scheme.specs.Polynomial.{polynomial_value};
 
 use crate::arithmetic::{add_multiple, is_zero, multiply_root, value_at};
 use crate::held::{Polynomial, Ratio, State};
@@ -45,7 +45,7 @@ fn combine<F: Field>(r: &mut Ratio<F::Elem>, c: F::Elem, other: &Ratio<F::Elem>)
 
 // How far top is from y·bottom at the point (x, y).
 fn discrepancy<F: Field>(r: &Ratio<F::Elem>, p: Point<F::Elem>) -> F::Elem
-    ensures { F.code result ≡ F.codes.sum (value_at_lem F.codes (polynomial_told F.code r.now.top) (F.code p.x)) (F.codes.negative (F.codes.product (F.code p.y) (value_at_lem F.codes (polynomial_told F.code r.now.bottom) (F.code p.x)))) }
+    ensures { F.code result ≡ F.codes.sum (polynomial_value F.codes (polynomial_told F.code r.now.top) (F.code p.x)) (F.codes.negative (F.codes.product (F.code p.y) (polynomial_value F.codes (polynomial_told F.code r.now.bottom) (F.code p.x)))) }
 {
     let top = value_at::<F>(&r.top, p.x);
     let bottom = value_at::<F>(&r.bottom, p.x);

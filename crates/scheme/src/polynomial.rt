@@ -1,6 +1,6 @@
 // Polynomials by the codes of their coefficients, lowest power first.
 ghost use Rattle.std.specs.Prelude.{◌≡◌, ◌<◌, IsTrue};
-ghost use Rattle.scheme.specs.Polynomial.{value_at_lem};
+ghost use Rattle.scheme.specs.Polynomial.{polynomial_value};
 ghost use Rattle.scheme.specs.Questions.{all_codes};
 
 use crate::arithmetic::horner;
@@ -17,7 +17,7 @@ pub(crate) fn element<F: Field>(n: u64) -> F::Elem
 // The polynomial's value at x.
 pub(crate) fn evaluate<F: Field>(coefficients: &[u64], x: F::Elem) -> F::Elem
     requires { IsTrue (all_codes F.codes.size coefficients.now) }
-    ensures { F.code result ≡ value_at_lem F.codes coefficients.now (F.code x) }
+    ensures { F.code result ≡ polynomial_value F.codes coefficients.now (F.code x) }
 {
     let mut value = F::zero();
     // a `for`: a closure under `fold` cannot know that a code is below the size

@@ -1,5 +1,5 @@
 // The questions about a card that is said to be a participant's. Presenting a card puts them, and writing its text does.
-ghost use Rattle.runs.specs.Cards.{card_refusal, is_coded_lem};
+ghost use Rattle.runs.specs.Cards.{card_refusal, is_coded_pair};
 ghost use Rattle.sitting.specs.Faults.{card_number, card_told};
 ghost use Rattle.std.specs.List.{list_all};
 ghost use Rattle.std.specs.Prelude.{◌≡◌};
@@ -23,14 +23,14 @@ impl CardFault {
 
 // Whether the value is a code of the field and the tag one of the doubled field.
 fn is_coded<F: Doublable>(pair: Pair) -> bool
-    ensures { result ≡ is_coded_lem F.Field.codes pair }
+    ensures { result ≡ is_coded_pair F.Field.codes pair }
 {
     is_code::<F>(pair.value) && is_code::<Doubled<F>>(pair.tag)
 }
 
 // Whether all values and tags are codes.
 fn are_coded<F: Doublable>(card: &[Pair]) -> bool
-    ensures { result ≡ list_all (is_coded_lem F.Field.codes) card.now }
+    ensures { result ≡ list_all (is_coded_pair F.Field.codes) card.now }
 {
     card.iter().all(|pair| is_coded::<F>(*pair))
 }

@@ -1,7 +1,7 @@
 -- The questions that follow the lines, by what the lines tell.
 -- Assumes nothing.
 use Rattle.std.proofs.Common.{◌≡◌, ℕ, ◌^◌, ◌<◌, Some, None, Ok, Option, decimal, refl, sym}
-use Rattle.text.specs.Card.{answer, field_named_lem, settled}
+use Rattle.text.specs.Card.{answer, named_field, settled}
 use Rattle.text.specs.Lines.{field_name}
 use Rattle.text.specs.Numbers.{numbers_in, optional_numbers_in}
 use Rattle.text.specs.Parts.{contents, list_text, optional_text, optional_numbers}
@@ -13,7 +13,7 @@ use Rattle.text.specs.declared.types.Lines.{Lines}
 use Rattle.text.proofs.NumbersBack.{read_back, optional_back}
 
 -- a field's name is read as that field
-pub named_back : (field : FieldName) → field_named_lem (field_name field) ≡ field
+pub named_back : (field : FieldName) → named_field (field_name field) ≡ field
 named_back Byte = refl
 named_back P251 = refl
 

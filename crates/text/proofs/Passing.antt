@@ -7,7 +7,7 @@ use Rattle.scheme.specs.declared.types.Figures.{Figures}
 use Rattle.scheme.specs.declared.types.Pair.{Pair}
 use Rattle.scheme.proofs.Acceptance.{all_yes}
 use Rattle.scheme.proofs.Asking.{all_from_every}
-use Rattle.runs.specs.Cards.{card_questions, card_refusal, is_coded_lem}
+use Rattle.runs.specs.Cards.{card_questions, card_refusal, is_coded_pair}
 use Rattle.text.specs.Card.{codes_of}
 use Rattle.text.specs.declared.types.FieldName.{FieldName}
 use Rattle.text.specs.declared.types.FieldName.TheVariants.{Byte, P251}
@@ -32,5 +32,5 @@ module _ (field : FieldName) (f : Figures) (number : ℕ) (card : List Pair) (un
         from_one = leb-true _ _ range.0;
         to_n = leb-true _ _ range.1;
         pairs = eqb-true _ _ answers.1.0;
-        codes = all_from_every (is_coded_lem (codes_of field)) _ (λ pair t. let p = and_parts _ _ t in (ltb-true _ _ p.0, ltb-true _ _ p.1)) card answers.1.1.0;
+        codes = all_from_every (is_coded_pair (codes_of field)) _ (λ pair t. let p = and_parts _ _ t in (ltb-true _ _ p.0, ltb-true _ _ p.1)) card answers.1.1.0;
       }

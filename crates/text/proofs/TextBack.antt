@@ -12,8 +12,8 @@ use Rattle.scheme.specs.Questions.{unless, all_codes, first_no}
 use Rattle.scheme.specs.declared.types.Figures.{Figures}
 use Rattle.scheme.specs.declared.types.Pair.{Pair}
 use Rattle.scheme.proofs.Acceptance.{all_yes}
-use Rattle.runs.specs.Cards.{is_coded_lem}
-use Rattle.text.specs.Card.{Reading, codes_of, field_named_lem, card_keys, paired, reading, reading_questions, settled, read_card}
+use Rattle.runs.specs.Cards.{is_coded_pair}
+use Rattle.text.specs.Card.{Reading, codes_of, named_field, card_keys, paired, reading, reading_questions, settled, read_card}
 use Rattle.text.specs.Lines.{Name, is_content, field_name, lines, written}
 use Rattle.text.specs.Numbers.{digits_value, numbers_in, listed}
 use Rattle.text.specs.RoundTrips.{WrittenBack}
@@ -45,7 +45,7 @@ passing n k t d e =
       symbols = (leb-true _ _ c.0, leb-true _ _ c.1);
     }
 
-name_back : (name : List ℕ) → is_content Name name ≡ true → field_name (field_named_lem name) ≡ name
+name_back : (name : List ℕ) → is_content Name name ≡ true → field_name (named_field name) ≡ name
 name_back name e =
     elim (bytes_eq name (field_name Byte)) as (λ b. bytes_eq name (field_name Byte) ≡ b → (b || bytes_eq name (field_name P251)) ≡ true → field_name (cond b Byte P251) ≡ name) [
       | true ↦ λ q _. sym ((bytes_eq-Decides name (field_name Byte)).0 q)
@@ -63,7 +63,7 @@ tags_of [] (g ∷ tags) e = absurd (omega arith)
 tags_of (v ∷ values) [] e = absurd (omega arith)
 tags_of (v ∷ values) (g ∷ tags) e = ap (λ l. g ∷ l) (tags_of values tags (omega arith))
 
-coded_pairs : (C : Codes) (values tags : List ℕ) → all_codes C.size values ≡ true → all_codes (C.size * C.size) tags ≡ true → list_all (is_coded_lem C) (paired values tags) ≡ true
+coded_pairs : (C : Codes) (values tags : List ℕ) → all_codes C.size values ≡ true → all_codes (C.size * C.size) tags ≡ true → list_all (is_coded_pair C) (paired values tags) ≡ true
 coded_pairs C [] tags a b = refl
 coded_pairs C (v ∷ values) [] a b = refl
 coded_pairs C (v ∷ values) (g ∷ tags) a b =
@@ -77,10 +77,10 @@ module _ (text c₀ c₁ c₂ c₃ c₄ c₅ c₆ c₇ rest : List ℕ) where
   all_contents = c₀ ∷ c₁ ∷ c₂ ∷ c₃ ∷ c₄ ∷ c₅ ∷ c₆ ∷ c₇ ∷ []
 
   abbrev told : List (Bool × (ℕ × ℕ))
-  told = reading_questions (field_named_lem c₀) (digits_value c₁) (digits_value c₂) (digits_value c₃) (digits_value c₄) (digits_value c₅) (numbers_in c₆) (numbers_in c₇) rest
+  told = reading_questions (named_field c₀) (digits_value c₁) (digits_value c₂) (digits_value c₃) (digits_value c₄) (digits_value c₅) (numbers_in c₆) (numbers_in c₇) rest
 
   abbrev tells : Reading
-  tells = reading (field_named_lem c₀) (digits_value c₁) (digits_value c₂) (digits_value c₃) (digits_value c₄) (digits_value c₅) (numbers_in c₆) (numbers_in c₇) rest
+  tells = reading (named_field c₀) (digits_value c₁) (digits_value c₂) (digits_value c₃) (digits_value c₄) (digits_value c₅) (numbers_in c₆) (numbers_in c₇) rest
 
   told_back : Back card_keys text all_contents rest → AllByRecursion (λ q. q.0 ≡ true) told → WrittenBack text tells
   unfolding passing
@@ -94,10 +94,10 @@ module _ (text c₀ c₁ c₂ c₃ c₄ c₅ c₆ c₇ rest : List ℕ) where
       record {
         figures = f;
         reads = refl;
-        passes = right_from (codes_of (field_named_lem c₀)) f (digits_value c₅) (paired (numbers_in c₆) (numbers_in c₇)) (
+        passes = right_from (codes_of (named_field c₀)) f (digits_value c₅) (paired (numbers_in c₆) (numbers_in c₇)) (
           yeses.1.1.0,
           length_paired (numbers_in c₆) (numbers_in c₇) level ∙ v,
-          coded_pairs (codes_of (field_named_lem c₀)) (numbers_in c₆) (numbers_in c₇) yeses.1.1.1.1.1.0 yeses.1.1.1.1.1.1.0,
+          coded_pairs (codes_of (named_field c₀)) (numbers_in c₆) (numbers_in c₇) yeses.1.1.1.1.1.0 yeses.1.1.1.1.1.1.0,
         );
         unchanged =
             (λ j. written card_keys (name_back c₀ are.0 j ∷ decimal_back c₁ are.1.0 j ∷ decimal_back c₂ are.1.1.0 j ∷ decimal_back c₃ are.1.1.1.0 j

@@ -34,8 +34,8 @@ v_of Byte = 0x20
 v_of P251 = 250
 
 -- the field that is named, where the line has settled that the name is one of the two
-abbrev pub field_named_lem : List ℕ → FieldName
-field_named_lem name = cond (bytes_eq name (field_name Byte)) Byte P251
+abbrev pub named_field : List ℕ → FieldName
+named_field name = cond (bytes_eq name (field_name Byte)) Byte P251
 
 abbrev pub card_keys : List Key
 card_keys = keys_with Card Values Tags
@@ -75,7 +75,7 @@ module _ (field : FieldName) (n k t d number : ℕ) (values tags rest : List ℕ
 -- by the contents of the lines
 abbrev pub settled : Result (List (List ℕ) × List ℕ) (ℕ × ℕ) → Result Reading (ℕ × ℕ)
 settled (Ok l) =
-    answer (field_named_lem (slice_index_or l.0 0 []))
+    answer (named_field (slice_index_or l.0 0 []))
     (digits_value (slice_index_or l.0 1 [])) (digits_value (slice_index_or l.0 2 [])) (digits_value (slice_index_or l.0 3 [])) (digits_value (slice_index_or l.0 4 []))
     (digits_value (slice_index_or l.0 5 [])) (numbers_in (slice_index_or l.0 6 [])) (numbers_in (slice_index_or l.0 7 [])) l.1
 settled (Err e) = Err e
@@ -114,6 +114,6 @@ unless_refused (Some e) text buffer = (Err e, buffer)
 unless_refused None text buffer = (Ok (length text), text ++ drop (length text) buffer)
 
 -- what the writer answers, and its buffer afterwards
-abbrev pub write_card_lem : FieldName → Figures → ℕ → Pairs → List ℕ → Result ℕ ℕ × List ℕ
-write_card_lem field f number card buffer =
+abbrev pub write_card_answer : FieldName → Figures → ℕ → Pairs → List ℕ → Result ℕ ℕ × List ℕ
+write_card_answer field f number card buffer =
     unless_refused (write_refusal field f number card (length buffer)) (card_text field f number card) buffer

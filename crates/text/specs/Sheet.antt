@@ -5,7 +5,7 @@ use Rattle.std.specs.Result.{result_map_both}
 use Rattle.scheme.specs.Questions.{first_no, unless}
 use Rattle.scheme.specs.Dealing.{deal_number}
 use Rattle.scheme.specs.Figures.{figures_answer, figures_number}
-use Rattle.text.specs.Card.{field_named_lem}
+use Rattle.text.specs.Card.{named_field}
 use Rattle.text.specs.Faults.{fault_told}
 use Rattle.text.specs.Lines.{keys_with, lines}
 use Rattle.text.specs.Numbers.{digits_value, numbers_in, optional_numbers_in}
@@ -44,14 +44,14 @@ module _ (field : FieldName) (n k t d : ℕ) (key values tags : List ℕ) where
 
 abbrev pub sheet_settled : Result (List (List ℕ) × List ℕ) (ℕ × ℕ) → Result DealingSheet (ℕ × ℕ)
 sheet_settled (Ok l) =
-    sheet_answer (field_named_lem (slice_index_or l.0 0 []))
+    sheet_answer (named_field (slice_index_or l.0 0 []))
     (digits_value (slice_index_or l.0 1 [])) (digits_value (slice_index_or l.0 2 [])) (digits_value (slice_index_or l.0 3 [])) (digits_value (slice_index_or l.0 4 []))
     (numbers_in (slice_index_or l.0 5 [])) (optional_numbers_in (slice_index_or l.0 6 [])) (numbers_in (slice_index_or l.0 7 [])) l.1
 sheet_settled (Err e) = Err e
 
 -- what the reader of sheets answers: the sheet, or the refusal's number and line, which is 0 for the refusals of calls
-abbrev pub read_sheet_lem : List ℕ → Result DealingSheet (ℕ × ℕ)
-read_sheet_lem text = cond (nat_le (length text) 16384) (sheet_settled (lines 1 sheet_keys text)) (Err (51, 0))
+abbrev pub read_sheet_answer : List ℕ → Result DealingSheet (ℕ × ℕ)
+read_sheet_answer text = cond (nat_le (length text) 16384) (sheet_settled (lines 1 sheet_keys text)) (Err (51, 0))
 
 -- the number and line of each refusal
 abbrev pub sheet_fault_told : SheetFault → ℕ × ℕ

@@ -4,7 +4,7 @@ ghost use Rattle.scheme.specs.Dealing.{deal_told, dealing};
 ghost use Rattle.text.specs.Card.{codes_of, u_of, v_of};
 ghost use Rattle.text.specs.Numbers.{numbers_in};
 ghost use Rattle.text.specs.Parts.{optional_numbers};
-ghost use Rattle.text.specs.Sheet.{read_sheet_lem, sheet_answer, sheet_fault_told, sheet_shown, sheet_told};
+ghost use Rattle.text.specs.Sheet.{read_sheet_answer, sheet_answer, sheet_fault_told, sheet_shown, sheet_told};
 ghost use Rattle.text.specs.declared.types.SheetFault.TheVariants.{Deal, Figures as Passing, Line};
 
 use crate::lines::take_lines;
@@ -82,7 +82,7 @@ fn settle_sheet(lines: &SheetLines) -> Result<Sheet, SheetFault>
 
 // Reads a dealing sheet, or refuses it by the first question that is answered with no.
 pub fn read_sheet(text: &[u8]) -> Result<Sheet, SheetFault>
-    ensures { sheet_told result ≡ read_sheet_lem text.now }
+    ensures { sheet_told result ≡ read_sheet_answer text.now }
 {
     if text.len() > 16384 {
         return Err(SheetFault::TooLong);

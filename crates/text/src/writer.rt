@@ -2,7 +2,7 @@
 ghost use Rattle.std.specs.Prelude.{◌≡◌, ◌≤◌, length, IfOk};
 ghost use Rattle.runs.specs.Cards.{card_refusal};
 ghost use Rattle.sitting.specs.Faults.{card_told};
-ghost use Rattle.text.specs.Card.{card_text, codes_of, write_card_lem};
+ghost use Rattle.text.specs.Card.{card_text, codes_of, write_card_answer};
 ghost use Rattle.text.specs.Faults.{write_number};
 ghost use Rattle.text.specs.Shown.{write_told};
 ghost use Rattle.text.specs.declared.types.WriteFault.TheVariants.{Card};
@@ -70,7 +70,7 @@ pub fn write_card(
     card: &[Pair],
     buffer: &mut [u8],
 ) -> Result<usize, WriteFault>
-    ensures told { (write_told result, buffer.new) ≡ write_card_lem field figures.now number card.now buffer.old }
+    ensures told { (write_told result, buffer.new) ≡ write_card_answer field figures.now number card.now buffer.old }
     ensures bound { IfOk result (λ length. length ≤ 1024) }
 {
     ask_named(field, figures, number, card)?;

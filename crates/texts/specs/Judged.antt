@@ -2,7 +2,7 @@
 -- Assumes nothing.
 use Rattle.std.specs.Prelude.{◌≡◌, ℕ, ◌-◌, List, ◌++◌, length, replicate, Ok}
 use Rattle.scheme.specs.declared.types.Figures.{Figures}
-use Rattle.text.specs.Card.{Reading, write_card_lem}
+use Rattle.text.specs.Card.{Reading, write_card_answer}
 use Rattle.text.specs.RoundTrips.{reading_for}
 use Rattle.text.specs.Shown.{shown}
 use Rattle.text.specs.declared.types.CardRead.{CardRead}
@@ -15,7 +15,7 @@ held n text = text ++ replicate (n - length text) 7
 -- the writer gives this text for this card
 abbrev pub IsWrittenAs : CardRead → List ℕ → Type 0
 IsWrittenAs card text =
-    write_card_lem card.field card.figures card.number (shown card).card (replicate 1100 7) ≡ (Ok (length text), held 1100 text)
+    write_card_answer card.field card.figures card.number (shown card).card (replicate 1100 7) ≡ (Ok (length text), held 1100 text)
 
 -- what a reader is to tell of the text of the case
 abbrev pub reading_of : Figures → Case → Reading
