@@ -12,7 +12,7 @@ const LIMIT: u64 = 16385;
 fn main(rt: HostRuntime) -> Result<()> {
     let mut sheet_text = Vec::new(rt.alloc());
     rt.stdin().take(LIMIT).read_to_end(&mut sheet_text)?;
-    // 32 participants with 64 pairs each, the largest dealing; a `Vec` would need a second kind of error
+    // 32 participants with 64 pairs each, the largest dealing: an array, so that only the sheet's text needs a heap
     let mut cards = [Pair::default(); 2048];
     match deal_text(&sheet_text, &mut cards) {
         Ok(sheet) => print_cards(&rt, &sheet, &cards)?,

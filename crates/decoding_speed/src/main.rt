@@ -25,8 +25,8 @@ fn measure<F: Field>(rt: &HostRuntime, name: &str, timed: bool) -> io::Result<()
     Ok(())
 }
 
-// The element whose code is the remainder of n by the field's size. `decoding` has the like of this function and of the two below:
-// each is an expression, and a crate of its own would be longer.
+// The element whose code is the remainder of n by the field's size. `decoding` has the like of this function and of `source`, each one
+// expression; a crate of its own would be longer.
 fn element<F: Field>(n: u64) -> F::Elem {
     F::from_code(n % F::size()).unwrap()
 }

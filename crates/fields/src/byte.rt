@@ -69,6 +69,7 @@ fn multiply(a: u8, b: u8) -> u8
     let mut sum = 0;
     let mut power = a;
     let mut bits = b;
+    // three values change in each turn: a `fold` over the three would be no plainer
     for _bit in 0..8u32 {
         sum ^= (bits & 1) * power;
         power = (power << 1) ^ ((power >> 7) * 0x1b);

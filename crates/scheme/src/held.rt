@@ -55,6 +55,7 @@ impl<E: Copy> Polynomial<E> {
         ensures { self.new ≡ self.old ++ c ∷ [] }
     {
         self.coefficients[self.len] = c;
+        // the one place where the count grows
         self.len += 1;
     }
 }

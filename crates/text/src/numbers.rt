@@ -3,7 +3,8 @@ ghost use Rattle.std.specs.Prelude.{◌≡◌, ◌≤◌, true, cond, length, ta
 ghost use Rattle.std.specs.Option.{option_map};
 ghost use Rattle.text.specs.Numbers.{is_list, is_number, number_told, numbers_in};
 
-// Whether the text is a number: 1 to 10 digits without a leading zero.
+// Whether the text is a number: 1 to 10 digits without a leading zero. (Its length is tested by hand: with `(1..=10).contains(..)` the
+// fact was lost where the ways join.)
 fn is_number(text: &[u8]) -> bool
     ensures { result ≡ is_number text.now }
 {

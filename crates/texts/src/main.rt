@@ -70,6 +70,7 @@ fn show_text(rt: &HostRuntime, (name, text, refusal): &Row) -> io::Result<()> {
             println!(rt; "{name}: read, {length} bytes, written back={back}")
         }
         Err(fault) => {
+            // taken out before printing, since both are compared with the table
             let (number, line) = (fault.number(), fault.line());
             let expected = *refusal == Some((number, line));
             println!(rt; "{name}: refused={number} line={line} expected={expected}")

@@ -1,6 +1,7 @@
 // Test vectors: each line shows a case and the answer that came, and the file `stdout` has the answers that are expected.
 #![tactic(auto)]
 
+use anyhow::Context;
 use fields::{Byte, Doubled, Field, P251};
 use scheme::{Figures, Pair, deal, figures};
 use std::io;
@@ -113,11 +114,10 @@ fn main(rt: HostRuntime) -> anyhow::Result<()> {
 }
 
 // The products of FIPS 197, section 4.2, and squares of -1 and of y.
-fn products(rt: &HostRuntime) -> io::Result<()> {
+fn products(rt: &HostRuntime) -> anyhow::Result<()> {
     for b in [0x83, 0x13, 0x02, 0x04, 0x08, 0x10] {
-        if let Some(c) = product::<Byte>(0x57, b) {
-            println!(rt; "byte 57*{b:02x}={c:02x}")?;
-        }
+        let c = product::<Byte>(0x57, b).context("no code")?;
+        println!(rt; "byte 57*{b:02x}={c:02x}")?;
     }
     show_square::<P251>(rt, "p251", 250)?;
     show_square::<Doubled<P251>>(rt, "doubled p251", 251)?;
@@ -132,11 +132,10 @@ fn product<F: Field>(a: u64, b: u64) -> Option<u64> {
 }
 
 // The code of a·a.
-fn show_square<F: Field>(rt: &HostRuntime, name: &str, a: u64) -> io::Result<()> {
-    match product::<F>(a, a) {
-        Some(c) => println!(rt; "{name} {a}*{a}={c}"),
-        None => println!(rt; "{name} {a} is no code"),
-    }
+fn show_square<F: Field>(rt: &HostRuntime, name: &str, a: u64) -> anyhow::Result<()> {
+    let c = product::<F>(a, a).context("no code")?;
+    println!(rt; "{name} {a}*{a}={c}")?;
+    Ok(())
 }
 
 // The inverses in each field.
