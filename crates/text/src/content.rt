@@ -26,11 +26,9 @@ impl<'a> Content<'a> for FieldName {
     ghost text = { field_name };
 
     fn read(run: &'a [u8]) -> Option<FieldName> {
-        match run {
-            b"byte" => Some(FieldName::Byte),
-            b"p251" => Some(FieldName::P251),
-            _ => None,
-        }
+        [FieldName::Byte, FieldName::P251]
+            .into_iter()
+            .find(|name| run == name.word())
     }
 }
 
