@@ -40,12 +40,12 @@ module _ {K : Type 0} (X : Field K) where
   plus_nil [] = refl
   plus_nil (c ∷ f) = refl
 
-  scale_push : (k : K) (f : List K) (d : K) → scale X k (f ++ d ∷ []) ≡ scale X k f ++ k ⊗ d ∷ []
+  pub scale_push : (k : K) (f : List K) (d : K) → scale X k (f ++ d ∷ []) ≡ scale X k f ++ k ⊗ d ∷ []
   scale_push k [] d = refl
   scale_push k (c ∷ f) d = ap (λ z. k ⊗ c ∷ z) (scale_push k f d)
 
   -- a further coefficient in a sum with a longer polynomial, and in one with a polynomial that is no longer
-  plus_push : (f g : List K) (d z : K) → length g < length f
+  pub plus_push : (f g : List K) (d z : K) → length g < length f
       → plus X f (g ++ d ∷ []) ≡ set (plus X f g) (length g) (get_or (plus X f g) (length g) z ⊕ d)
   plus_push [] g d z l = absurd (omega arith)
   plus_push (c ∷ f) [] d z l = ap (λ w. (c ⊕ d) ∷ w) (plus_nil f)

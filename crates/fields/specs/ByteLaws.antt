@@ -64,7 +64,7 @@ xor_swap a b c d =
 sum_linear : (f g : ℕ → ℕ) → Linear f → Linear g → Linear (λ a. bit_xor (f a) (g a))
 sum_linear f g lf lg a b = ap₂ bit_xor (lf a b) (lg a b) ∙ xor_swap (f a) (f b) (g a) (g b)
 
-bit : (n : ℕ) → n % 2 < 2
+pub bit : (n : ℕ) → n % 2 < 2
 bit n = mod-lt n (omega arith)
 
 -- a bit times a number, linear in both
@@ -190,12 +190,12 @@ xtime_linear =
     sum_linear (λ a. a * 2 % 256) (λ a. a / 128 % 2 * 27)
     (λ a b. ap (λ t. t % 256) (double_linear a b) ∙ xor_mod (a * 2) (b * 2) 8) (bit_of_linear 7 27)
 
-bit_below : (s a : ℕ) → s < 2 → a < 256 → s * a < 256
+pub bit_below : (s a : ℕ) → s < 2 → a < 256 → s * a < 256
 bit_below zero a h l = subst (λ (t : ℕ). t < 256) (sym (zero-mul a)) (omega arith)
 bit_below (suc zero) a h l = subst (λ (t : ℕ). t < 256) (sym (one-mul a)) l
 bit_below (suc (suc s)) a h l = absurd (not-suc-le-zero (le_of_suc-le-suc (le_of_suc-le-suc h)))
 
-xtime_below : (a : ℕ) → xtime a < 256
+pub xtime_below : (a : ℕ) → xtime a < 256
 xtime_below a =
     xor_lt 8 (a * 2 % 256) (a / 128 % 2 * 27) (mod-lt (a * 2) (omega arith)) (bit_below (a / 128 % 2) 27 (bit (a / 128)) (omega arith))
 

@@ -13,7 +13,7 @@ use Rattle.fields.specs.Elements.{zero_below}
 use Rattle.fields.specs.Laws.{Codes, FieldLaws, DoublableLaws}
 use Rattle.fields.specs.Room.{Small}
 
-abbrev pair : {E : Type 0} → E → E → Twice E
+abbrev pub pair : {E : Type 0} → E → E → Twice E
 pair a b = record { low = a; high = b }
 
 -- the remainder and the quotient of a code by p are the codes of the two parts
@@ -56,7 +56,7 @@ pair_le b s h =
     let y = up b x + s in
     omega (arith, up_le b 0 16 h, up_le b x 16 h, up_le (max b (max b 1)) y 16 (max-le h (max-le h (omega arith))))
 
-square : (n s : ℕ) → 33 ≤ n → s ≤ n → 2 * s + 48 ≤ n * n
+pub square : (n s : ℕ) → 33 ≤ n → s ≤ n → 2 * s + 48 ≤ n * n
 square n s h l = omega (arith, mul-le-mul {n₁ = 33} {m₁ = n} {n₂ = n} {m₂ = n} h (omega arith))
 
 pub twice_small : (R : RattleType) (n : ℕ) → 33 ≤ n → Small R n

@@ -31,8 +31,11 @@ impl Field for P251 {
         reduce(u16::from(a.code) + u16::from(b.code))
     }
 
+    // In a byte, and not by `reduce`: there the remainder is a comparison.
     fn neg(a: Symbol<251>) -> Symbol<251> {
-        reduce(251 - u16::from(a.code))
+        Symbol {
+            code: (251 - a.code) % 251,
+        }
     }
 
     fn mul(a: Symbol<251>, b: Symbol<251>) -> Symbol<251> {

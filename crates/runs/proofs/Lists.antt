@@ -81,6 +81,11 @@ module _ {A : Type 0} (test : A → Bool) where
   kept_map f [] = refl
   kept_map f (b ∷ l) = grind (arith, kept_map f l)
 
+-- (`filter_agree` of the library asks that the tests agree everywhere)
+pub kept_same : {A : Type 0} (p r : A → Bool) (l : List A) → ((a : A) → In a l → p a ≡ r a) → filter p l ≡ filter r l
+kept_same p r [] h = refl
+kept_same p r (b ∷ l) h = ap₂ (λ t k. cond t (b ∷ k) k) (h b (inl refl)) (kept_same p r l (λ a k. h a (inr k)))
+
 pub some_same : {A : Type 0} (p r : A → Bool) (l : List A) → ((a : A) → In a l → p a ≡ r a) → list_any p l ≡ list_any r l
 some_same p r [] h = refl
 some_same p r (b ∷ l) h = ap₂ ◌||◌ (h b (inl refl)) (some_same p r l (λ a k. h a (inr k)))
