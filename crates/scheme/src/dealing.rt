@@ -65,8 +65,8 @@ pub fn are_codes<F: Field>(numbers: &[u64]) -> bool
     numbers.iter().all(|n| is_code::<F>(*n))
 }
 
-// A key that has passed the questions of `deal` over the field F, with the coefficients of its polynomials. What the questions
-// settled stands in the type, so that only `Secret::new` asks it.
+// A key with the coefficients of its polynomials, whose lists have the lengths and the codes that `deal` asks for over the field F.
+// These facts stand in the type, so that only `Secret::new` asks them.
 #[derive(Drop)]
 struct Secret<'a, F: Doublable> {
     figures: Figures,
@@ -171,15 +171,27 @@ impl<'a, F: Doublable> Secret<'a, F> {
         }
     }
 
-    // Fills the buffer with the shares, participant after participant: pair number `at` is for participant at / d + 1 and
-    // place at % d. By number: of what is written through `chunks_mut` a proof knows only how many there are.
+    // Fills the buffer with participant i's share, place after place.
+    fn write_share(&self, i: u64, share: &mut [Pair])
+        requires i_in { i < F.Field.codes.size }
+        requires share_len { length share.old ≡ self.now.figures.d }
+        ensures { share.new ≡ dealt_share F.Field.codes F.Doublable.u F.Doublable.v self.now.figures (value_polynomial self.now.figures self.now.key.now self.now.values.now) (tag_polynomial self.now.figures self.now.tags.now) i }
+    {
+        for (j, pair) in share.iter_mut().enumerate() {
+            *pair = self.pair(i, j);
+        }
+    }
+
+    // Fills the buffer with the shares, participant after participant. By number: of what is written through `chunks_mut` a proof
+    // knows only how many there are. (One loop over all pairs would divide by d to find a pair's participant and place.)
     fn write_shares(&self, shares: &mut [Pair])
         requires shares_len { length shares.old ≡ self.now.figures.n * self.now.figures.d }
         ensures { shares.new ≡ dealt_shares F.Field.codes F.Doublable.u F.Doublable.v self.now.figures self.now.key.now self.now.values.now self.now.tags.now }
     {
         let d = self.figures.d;
-        for (at, pair) in shares.iter_mut().enumerate() {
-            *pair = self.pair((at / d + 1) as u64, at % d);
+        for i in 0..self.figures.n {
+            let start = i * d;
+            self.write_share(i as u64 + 1, &mut shares[start..start + d]);
         }
     }
 }

@@ -13,6 +13,7 @@ use Rattle.scheme.specs.declared.held.Polynomial.{Polynomial}
 use Rattle.scheme.specs.declared.types.Point.{Point}
 use Rattle.scheme.specs.declared.types.PointsFault.{PointsFault}
 use Rattle.scheme.proofs.Fitted.{apart_x, few_fits, fits_few, fitting_one, fitting_none}
+use Rattle.scheme.proofs.Memory.{roomy}
 use Rattle.scheme.proofs.PointQuestions.{bounds, settled}
 use Rattle.scheme.proofs.fitting.decode.Goals as goal
 
@@ -49,6 +50,15 @@ module _ {E : Type 0} {C : Codes} {code : E → ℕ} (L : FieldLaws E C code) (p
 
     answers : (b : Bool) → question f ≡ b → Ok (option_told code (then_some b f)) ≡ decoded C P t
     answers b e = ap (unless None) (sym (decides b e)) ∙ ap (λ (r : Option PointsFault). unless r (first (fitting C P t))) asked
+
+-- the questions ask for as many points as the decoder wants, and the last count
+pub candidate-f-requires : goal.candidate-f-requires
+candidate-f-requires g c =
+    ((roomy g.row.F-Elem g.F.Field.codes g.met.F.Field.laws.on_codes g.met.F.Field.room).polynomial, (omega (arith, (bounds g.F.Field.code c.args.points.now _ c.in_ok-ask_points.ensures).0), omega arith))
+
+pub fits-requires : goal.fits-requires
+fits-requires g c =
+    ((roomy g.row.F-Elem g.F.Field.codes g.met.F.Field.laws.on_codes g.met.F.Field.room).polynomial, (omega (arith, (bounds g.F.Field.code c.args.points.now _ c.in_ok-ask_points.ensures).0), omega arith))
 
 pub returns : goal.returns
 returns g c =
