@@ -7,6 +7,19 @@ use scheme::{Figures, Pair};
 
 const BLANK: Pair = Pair { value: 0, tag: 0 };
 
+// How many flags are set. (A `for`: through `filter` and `count` it takes more than twice as long.)
+fn count(flags: &[bool]) -> usize
+    ensures { result ≡ count_by (λ b. b) flags.now }
+{
+    let mut set = 0;
+    for flag in flags {
+        if *flag {
+            set += 1;
+        }
+    }
+    set
+}
+
 impl Table {
     // All places blank and no card lying.
     pub(crate) fn new() -> Table
@@ -50,7 +63,6 @@ impl Table {
     pub(crate) fn lying_among(&self, figures: &Figures) -> usize
         ensures { result ≡ count_by (λ b. b) (take figures.now.n self.now.lying) }
     {
-        let flags = &self.lying[..figures.n()];
-        flags.iter().filter(|lies| **lies).count()
+        count(&self.lying[..figures.n()])
     }
 }
