@@ -1,6 +1,6 @@
 -- Loops that copy the items of a list, each to its place.
 -- Assumes nothing.
-use Rattle.std.proofs.Common.{◌≡◌, ℕ, ◌+◌, ◌<◌, Bool, true, false, eqb, List, [], ◌∷◌, ◌++◌, length, get_or, take, set, Some, None, sym, ap, ◌∙◌, subst, arith}
+use Rattle.std.proofs.Common.{◌≡◌, ℕ, ◌+◌, ◌<◌, Bool, true, false, eqb, List, [], ◌∷◌, ◌++◌, length, get_or, take, set, sym, ap, ◌∙◌, subst, arith}
 use Rattle.std.specs.Fn.{CalledAt}
 use Rattle.std.specs.Iterator.Adapters.{enumerate_source, enumerate_count, enumerate_steps}
 use Rattle.std.specs.List.{enumerate_from}
@@ -11,10 +11,9 @@ use Rattle.std.proofs.lemmas.Iterator.Splits.{YieldsList-from_slice_split}
 use Rattle.std.proofs.lemmas.List.{take_more, take_more_set}
 use Rattle.std.proofs.lemmas.List.FromFn.{length-enumerate_from, get_or-enumerate_from}
 use Rattle.std.proofs.lemmas.List.Sums.{AllPass-from_list_all}
-use Rattle.std.proofs.lemmas.Bool.{cond-true}
 use denote.Ref.{Bor}
 use denote.Param.Members.{Mut}
-use Rattle.text.specs.Numbers.{pieces, is_number, is_list, number_told, digits_value}
+use Rattle.text.specs.Numbers.{pieces, is_number, is_list}
 
 -- the item of a loop with its place is the next item of the list
 pub placed : {B : Type 0} (all : List B) (n i : ℕ) (x : B) → (n < length (enumerate_from 0 all)) × ((i, x) ≡ get_or (enumerate_from 0 all) n (i, x))
@@ -40,8 +39,6 @@ pieces_road g text rest done callee call source count into =
     YieldsList-at into (YieldsList-from_enumerate (YieldsList-at source (YieldsList-from_slice_split g (λ b. eqb b 44) text rest done callee call)) count)
 
 -- each piece of a list is a number
-pub piece_number : (text : List ℕ) (i : ℕ) (piece : List ℕ) → is_list text ≡ true → i < length (pieces text) → piece ≡ get_or (pieces text) i piece
-    → number_told piece ≡ Some (digits_value piece)
-piece_number text i piece e h is =
-    cond-true (is_number piece) (Some (digits_value piece)) None
-    (subst (λ p. is_number p ≡ true) (sym is) (AllPass-from_list_all is_number (pieces text) e i piece h))
+pub piece_is_number : (text : List ℕ) (i : ℕ) (piece : List ℕ) → is_list text ≡ true → i < length (pieces text) → piece ≡ get_or (pieces text) i piece → is_number piece ≡ true
+piece_is_number text i piece e h is =
+    subst (λ p. is_number p ≡ true) (sym is) (AllPass-from_list_all is_number (pieces text) e i piece h)

@@ -1,7 +1,7 @@
 // Numbers, and lists of numbers, as text.
 ghost use Rattle.std.specs.Prelude.{◌≡◌, ◌≤◌, true, cond, length, take, Some, None};
 ghost use Rattle.std.specs.Option.{option_map};
-ghost use Rattle.text.specs.Numbers.{is_list, is_number, number_told, numbers_in};
+ghost use Rattle.text.specs.Numbers.{digits_value, is_list, is_number, number_told, numbers_in};
 
 // Whether the text is a number: 1 to 10 digits without a leading zero. (Its length is tested by hand: with `(1..=10).contains(..)` the
 // fact was lost where the ways join.)
@@ -17,14 +17,27 @@ fn is_number(text: &[u8]) -> bool
     text.iter().all(|b| b.is_ascii_digit())
 }
 
-// The number that the text is, where it is one.
+// The number that digits write.
+fn value_of(digits: &[u8]) -> u64
+    requires { is_number digits.now ≡ true }
+    ensures { result ≡ digits_value digits.now }
+{
+    let mut n = 0u64;
+    for b in digits {
+        n = n * 10 + u64::from(*b - b'0');
+    }
+    n
+}
+
+// The number that the text is, where it is one. (The text is tested once: to `parse` it would test and read its bytes twice more.)
 pub(crate) fn number(text: &[u8]) -> Option<u64>
     ensures { result ≡ number_told text.now }
 {
-    if !is_number(text) {
-        return None;
+    if is_number(text) {
+        Some(value_of(text))
+    } else {
+        None
     }
-    str::from_utf8(text).ok()?.parse().ok()
 }
 
 // Whether the text is a list: numbers that are separated by single commas.
@@ -53,33 +66,27 @@ impl<'a> NumberList<'a> {
         }
     }
 
-    // How many numbers it has.
+    // How many numbers it has: one more than commas. (A `for`: `split` and `count` together take several times as long.)
     pub(crate) fn count(&self) -> usize
         ensures { result ≡ length (numbers_in self.now.text.now) }
     {
-        self.text.split(|b| *b == b',').count()
+        let mut count = 1;
+        for b in self.text {
+            if *b == b',' {
+                count += 1;
+            }
+        }
+        count
     }
 
-    // Copies its numbers into a buffer with a place for each. (It writes by index: of what is written through
+    // Copies its numbers to the front of a buffer with a place for each. (It writes by index: of what is written through
     // `iter_mut().zip(..)` a proof knows only how many items there are.)
-    fn copy_into(&self, numbers: &mut [u64])
-        requires { length (numbers_in self.now.text.now) ≡ length numbers.old }
-        ensures { numbers.new ≡ numbers_in self.now.text.now }
+    pub(crate) fn copy_into(&self, numbers: &mut [u64])
+        requires { length (numbers_in self.now.text.now) ≤ length numbers.old }
+        ensures { take (length (numbers_in self.now.text.now)) numbers.new ≡ numbers_in self.now.text.now }
     {
         for (i, piece) in self.text.split(|b| *b == b',').enumerate() {
-            numbers[i] = number(piece).unwrap();
+            numbers[i] = value_of(piece);
         }
-    }
-
-    // Its numbers, at the front of N. (The loop is a function of its own: one over the closure of `split` gets no proof in a
-    // function with a const parameter.)
-    pub(crate) fn to_array<const N: usize>(&self) -> [u64; N]
-        requires { length (numbers_in self.now.text.now) ≤ N }
-        ensures { take (length (numbers_in self.now.text.now)) result ≡ numbers_in self.now.text.now }
-    {
-        let mut numbers = [0; N];
-        let count = self.count();
-        self.copy_into(&mut numbers[..count]);
-        numbers
     }
 }

@@ -105,9 +105,9 @@ impl CardText {
         requires { length self.old + length (written_line key (listed (map (picked half) card.now))) ≤ 1024 }
         ensures { self.new ≡ self.old ++ written_line key (listed (map (picked half) card.now)) }
     {
-        let mut list = CardText::new();
-        list.push_list(half, card);
-        self.push_line(key, list.as_slice());
+        self.push(key.word());
+        self.push_list(half, card);
+        self.push(b"\n");
     }
 
     // appends the five lines that tell of a scheme

@@ -72,8 +72,10 @@ fn settle(lines: &CardLines) -> Result<CardRead, TextFault>
     if lines.eighth.count() != d {
         return Err(TextFault::Count { line: 8 });
     }
-    let values = lines.seventh.to_array::<64>();
-    let tags = lines.eighth.to_array::<64>();
+    let mut values = [0; 64];
+    lines.seventh.copy_into(&mut values);
+    let mut tags = [0; 64];
+    lines.eighth.copy_into(&mut tags);
     ask_named(lines.field, &values[..d], &tags[..d])?;
     Ok(CardRead {
         field: lines.field,

@@ -44,14 +44,13 @@ fn count_optional(list: Option<NumberList>) -> usize
     list.map_or(0, |list| list.count())
 }
 
-// Its numbers, at the front of N. (A `match`, since a closure under `map_or` cannot know what `to_array` asks.)
-fn optional_to_array<const N: usize>(list: Option<NumberList>) -> [u64; N]
-    requires { length (optional_numbers list) ≤ N }
-    ensures { take (length (optional_numbers list.entry)) result ≡ optional_numbers list.entry }
+// Copies its numbers to the front of a buffer with a place for each.
+fn copy_optional(list: Option<NumberList>, numbers: &mut [u64])
+    requires { length (optional_numbers list) ≤ length numbers.old }
+    ensures { take (length (optional_numbers list.entry)) numbers.new ≡ optional_numbers list.entry }
 {
-    match list {
-        Some(list) => list.to_array(),
-        None => [0; N],
+    if let Some(list) = list {
+        list.copy_into(numbers);
     }
 }
 
@@ -71,13 +70,18 @@ fn settle_sheet(lines: &SheetLines) -> Result<Sheet, SheetFault>
     {
         return Err(SheetFault::Deal(DealFault::Coefficients));
     }
-    Ok(Sheet {
+    // the lists are copied to their places in the sheet: each array of its own would take as much of the stack again
+    let mut sheet = Sheet {
         field: lines.field,
         figures,
-        key: lines.sixth.to_array(),
-        values: optional_to_array(lines.seventh),
-        tags: lines.eighth.to_array(),
-    })
+        key: [0; 64],
+        values: [0; 2048],
+        tags: [0; 1024],
+    };
+    lines.sixth.copy_into(&mut sheet.key);
+    copy_optional(lines.seventh, &mut sheet.values);
+    lines.eighth.copy_into(&mut sheet.tags);
+    Ok(sheet)
 }
 
 // Reads a dealing sheet, or refuses it by the first question that is answered with no.

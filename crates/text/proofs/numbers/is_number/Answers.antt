@@ -12,4 +12,4 @@ returns c =
     let text = c.args.text.now in
     let some = c.if-is_empty.ensures in
     all_from_yields_List is_ascii_digit _ _ _ c.all.ensures.ran (YieldsList-from_slice text cc) (λ x b q k. search (rules, tests))
-    ∙ digits_alone text (grind (arith, nat_tests)) (omega arith) (⊎_elim (λ one e. one.1) (λ other e. absurd (other e)) c.else-text-eq48.either)
+    ∙ digits_alone text (grind (arith, nat_tests)) (omega arith) (⊎_elim (λ one e. omega (arith, one.1)) (λ other e. absurd (other e)) c.else-text-eq48.either)

@@ -1,24 +1,22 @@
-use Rattle.std.proofs.Common.{◌≡◌, ◌<◌, [], ◌∷◌, ◌++◌, length, get_or, take, sym, ap, subst, refl, ◌∙◌, rules, arith}
-use Rattle.std.specs.Option.{IsSome}
+use Rattle.std.proofs.Common.{◌≡◌, ◌<◌, [], ◌∷◌, ◌++◌, length, get_or, take, sym, ap, subst, ◌∙◌, rules, arith}
 use Rattle.std.proofs.lemmas.Iterator.Consumers.{YieldsList-turn, YieldsList-end}
 use Rattle.std.proofs.lemmas.List.{take_all, length-map, length_push, get_or-map}
-use Rattle.std.proofs.lemmas.Option.{same_Some}
 use Rattle.std.proofs.lemmas.List.FromFn.{length-enumerate_from}
 use borrow.Author.Tests.{tests}
 use Rattle.text.specs.Numbers.{pieces, numbers_in, digits_value}
-use Rattle.text.proofs.Pieces.{pieces_road, placed, piece_number, copied_more}
+use Rattle.text.proofs.Pieces.{pieces_road, placed, piece_is_number, copied_more}
 use Rattle.text.proofs.numbers.NumberList.copy_into.Goals as goal
 
-pub unwrap-requires : goal.unwrap-requires
-unwrap-requires c =
+pub value_of-requires : goal.value_of-requires
+value_of-requires c =
     let text = c.args.self.now.text.now in
     let here = placed (pieces text) (length c.loop-i.yielded) c.in-Some.i c.in-Some.piece.now (YieldsList-turn
     (pieces_road _ text c.split.ensures.rest c.split.ensures.done c.split.ensures.closure (λ x b q k. search (rules, tests)) c.enumerate-i-items.ensures.source c.enumerate-i-items.ensures.count c.into_iter-i-iterator.ensures.into_iter_gives)
     c.loop-i.yielded _ c.loop-i.yielded_by _ _ (c.in-Some.i, c.in-Some.piece) c.in-Some.is c.next.ensures.steps) in
-    subst IsSome (sym (c.number.ensures ∙ piece_number text c.in-Some.i c.in-Some.piece.now c.args.self.now.list here.0 here.2)) refl
+    piece_is_number text c.in-Some.i c.in-Some.piece.now c.args.self.now.list here.0 here.2
 
 -- where the loop is
-here : (c : goal.After-unwrap) → (c.in-Some.i < length (pieces c.args.self.now.text.now)) × (c.in-Some.i ≡ length c.loop-i.yielded)
+here : (c : goal.After-value_of) → (c.in-Some.i < length (pieces c.args.self.now.text.now)) × (c.in-Some.i ≡ length c.loop-i.yielded)
     × (c.in-Some.piece.now ≡ get_or (pieces c.args.self.now.text.now) c.in-Some.i c.in-Some.piece.now)
 here c =
     let text = c.args.self.now.text.now in
@@ -37,10 +35,9 @@ loop-i-preserved c =
     let text = c.args.self.now.text.now in
     let h = here c in
     let more = c.loop-i.yielded ++ ((c.in-Some.i, c.in-Some.piece) ∷ []) in
-    let n-is = same_Some _ _ (sym c.unwrap.ensures ∙ c.number.ensures ∙ piece_number text c.in-Some.i c.in-Some.piece.now c.args.self.now.list h.0 h.2) in
-    let n = c.unwrap.result in
+    let n = c.value_of.result in
     let next : n ≡ get_or (numbers_in text) c.in-Some.i n =
-    n-is ∙ ap digits_value h.2 ∙ sym (get_or-map digits_value (pieces text) c.in-Some.i c.in-Some.piece.now n h.0) in
+    c.value_of.ensures ∙ ap digits_value h.2 ∙ sym (get_or-map digits_value (pieces text) c.in-Some.i c.in-Some.piece.now n h.0) in
     copied_more (numbers_in text) c.loop-i.numbers c.in-Some.i (length more) n (omega (arith, length_push c.loop-i.yielded (c.in-Some.i, c.in-Some.piece)))
     (omega (arith, length-map (pieces text) digits_value)) (omega (arith, length-map (pieces text) digits_value, c.requires)) next
     (subst (λ k. take k c.loop-i.numbers ≡ take k (numbers_in text)) (sym h.1) c.loop-i.invariant)
@@ -52,5 +49,4 @@ returns c =
     (pieces_road _ text c.split.ensures.rest c.split.ensures.done c.split.ensures.closure (λ x b q k. search (rules, tests)) c.enumerate-i-items.ensures.source c.enumerate-i-items.ensures.count c.into_iter-i-iterator.ensures.into_iter_gives)
     c.loop-i.yielded _ c.loop-i.yielded_by _ _ c.in-None.is c.next.ensures.steps in
     let all : length (numbers_in text) ≡ length c.loop-i.yielded = length-map (pieces text) digits_value ∙ sym (length-enumerate_from 0 (pieces text)) ∙ sym end.1 in
-    sym (take_all (length c.loop-i.yielded) c.loop-i.numbers (omega arith)) ∙ c.loop-i.invariant
-    ∙ take_all (length c.loop-i.yielded) (numbers_in text) (omega arith)
+    ap (λ k. take k c.loop-i.numbers) all ∙ c.loop-i.invariant ∙ take_all (length c.loop-i.yielded) (numbers_in text) (omega arith)
