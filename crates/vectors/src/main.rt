@@ -1,7 +1,6 @@
 // Test vectors: each line shows a case and the answer that came, and the file `stdout` has the answers that are expected.
 #![tactic(auto)]
 
-use anyhow::Context;
 use fields::{Byte, Doubled, Field, P251};
 use scheme::{Figures, Pair, deal, figures};
 use std::io;
@@ -100,23 +99,28 @@ const DEALINGS: [Case; 10] = [
     },
 ];
 
-fn main(rt: HostRuntime) -> anyhow::Result<()> {
+fn main(rt: HostRuntime) -> io::Result<()> {
     products(&rt)?;
     inverses(&rt)?;
     for [n, k, t, d] in FIGURES {
         show_figures(&rt, n, k, t, d)?;
     }
-    let f = figures(5, 4, 1, 1)?;
+    let f = figures(5, 4, 1, 1).map_err(|_| refused())?;
     for case in &DEALINGS {
         show_dealing(&rt, &f, case)?;
     }
     dealt_over_byte(&rt)
 }
 
+// The error where none can come: these figures and this key pass their questions, and these numbers are codes.
+fn refused() -> io::Error {
+    io::Error::other("refused")
+}
+
 // The products of FIPS 197, section 4.2, and squares of -1 and of y.
-fn products(rt: &HostRuntime) -> anyhow::Result<()> {
+fn products(rt: &HostRuntime) -> io::Result<()> {
     for b in [0x83, 0x13, 0x02, 0x04, 0x08, 0x10] {
-        let c = product::<Byte>(0x57, b).context("no code")?;
+        let c = product::<Byte>(0x57, b).ok_or_else(refused)?;
         println!(rt; "byte 57*{b:02x}={c:02x}")?;
     }
     show_square::<P251>(rt, "p251", 250)?;
@@ -132,10 +136,9 @@ fn product<F: Field>(a: u64, b: u64) -> Option<u64> {
 }
 
 // The code of a·a.
-fn show_square<F: Field>(rt: &HostRuntime, name: &str, a: u64) -> anyhow::Result<()> {
-    let c = product::<F>(a, a).context("no code")?;
-    println!(rt; "{name} {a}*{a}={c}")?;
-    Ok(())
+fn show_square<F: Field>(rt: &HostRuntime, name: &str, a: u64) -> io::Result<()> {
+    let c = product::<F>(a, a).ok_or_else(refused)?;
+    println!(rt; "{name} {a}*{a}={c}")
 }
 
 // The inverses in each field.
@@ -149,9 +152,10 @@ fn inverses(rt: &HostRuntime) -> io::Result<()> {
 // How many elements times their inverses give one, and what the inverse of zero is.
 fn show_inverses<F: Field>(rt: &HostRuntime, name: &str) -> io::Result<()> {
     let size = F::size();
-    let ones = (0..size)
-        .filter(|n| times_inverse::<F>(*n) == Some(1))
-        .count();
+    // a `fold`: through `filter` and `count` the loop takes half as long again
+    let ones = (0..size).fold(0u64, |ones, n| {
+        ones.wrapping_add(u64::from(times_inverse::<F>(n) == Some(1)))
+    });
     let zero = F::to_code(F::inv(F::zero()));
     let past = F::from_code(size).is_some();
     println!(rt;
@@ -189,13 +193,12 @@ fn show_dealing(rt: &HostRuntime, f: &Figures, case: &Case) -> io::Result<()> {
 }
 
 // A dealing over byte with two places, whose pairs were computed by another program.
-fn dealt_over_byte(rt: &HostRuntime) -> anyhow::Result<()> {
-    let f = figures(7, 5, 1, 2)?;
+fn dealt_over_byte(rt: &HostRuntime) -> io::Result<()> {
+    let f = figures(7, 5, 1, 2).map_err(|_| refused())?;
     let mut shares = [Pair::default(); 14];
     let key = [0x2a, 0xff];
     let values = [1, 2, 3, 4, 0x80, 0, 0x1b, 0xfe];
     let tags = [0x1234, 0xabcd, 0xffff, 0x0100];
-    let count = deal::<Byte>(&f, &key, &values, &tags, &mut shares)?;
-    println!(rt; "byte dealt={count} {shares:?}")?;
-    Ok(())
+    let count = deal::<Byte>(&f, &key, &values, &tags, &mut shares).map_err(|_| refused())?;
+    println!(rt; "byte dealt={count} {shares:?}")
 }
