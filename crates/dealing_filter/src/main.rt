@@ -39,7 +39,7 @@ fn print_cards(rt: &HostRuntime, sheet: &Sheet, cards: &[Pair]) -> io::Result<()
 // The text of a card.
 fn print_card(rt: &HostRuntime, sheet: &Sheet, number: u64, card: &[Pair]) -> io::Result<()> {
     let mut buffer = [0u8; 1024];
-    // a card that was dealt is never refused
+    // that a card which was dealt is never refused is not shown: docs/DECISIONS.md
     let length = write_card(sheet.field(), &sheet.figures(), number, card, &mut buffer).map_err(
         |_| io::Error::other("a dealt card is refused"),
     )?;
